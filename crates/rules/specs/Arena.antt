@@ -1,0 +1,124 @@
+-- "The arena's words": what they are for a state, and when words are a well-formed arena.
+use mathlib.Core.List.{List, [], _∷_, _++_}
+use mathlib.Core.Option.{Option, none as nil, some}
+use mathlib.Core.Path.{_≡_}
+use Prim.Native.Nat.{ℕ, suc, _+_, _*_, _≤_}
+use lib.Dec.{eqb}
+use lib.ListN.{length, getD, drop}
+use Rattle.rules.specs.Order.{choose}
+use Rattle.rules.specs.Edition.{Edition, M, most-slots}
+use Rattle.rules.specs.Live.{or-else, Ascending}
+use Rattle.rules.specs.Tree.{Entry, Tree, none, node, size, times, hit, link-to, entries}
+use Rattle.rules.specs.Perform.{State, counting}
+
+-- What stands in a slot: "key, value, left link, right link".
+pub record Slot (K : Type 0) : Type 0 where
+  pub key : K
+  pub value : ℕ
+  pub left : ℕ
+  pub right : ℕ
+
+-- The link to the first slot of a chain, and the link that a chain has in its slot s.
+abbrev pub first-link : List ℕ → ℕ
+first-link [] = 0
+first-link (s ∷ more) = suc s
+
+unfoldable pub link-after : ℕ → List ℕ → ℕ
+link-after s [] = 0
+link-after s (x ∷ more) = choose (eqb s x) (first-link more) (link-after s more)
+
+-- How often a slot stands in a list.
+abbrev pub listed : ℕ → List ℕ → ℕ
+listed s [] = 0
+listed s (x ∷ more) = hit s x + listed s more
+
+module _ {K : Type 0} where
+  -- What a node's slot holds.
+  abbrev pub content : Entry K → Tree K → Tree K → Slot K
+  content e l r = record { key = e .key; value = e .value; left = link-to l; right = link-to r }
+
+  -- What the tree has in the slot s.
+  unfoldable pub held : ℕ → Tree K → Option (Slot K)
+  held s none = nil
+  held s (node e l r) = choose (eqb s (e .slot)) (some (content e l r)) (or-else (held s l) (held s r))
+
+  -- The slots hold the tree: each node's slot has its key and value, and the links to its children.
+  abbrev pub Holds : (ℕ → Slot K) → Tree K → Type 0
+  Holds at none = Unit {0}
+  Holds at (node e l r) = (at (e .slot) ≡ content e l r) × Holds at l × Holds at r
+
+module _ {K : Type 0} (ed : Edition K) where
+  -- "A free slot holds key 0, value 0, left = next free link, right = M."
+  abbrev pub free-slot : ℕ → Slot K
+  free-slot next = record { key = ed .zero-key; value = 0; left = next; right = M }
+
+  -- The slots hold the chain: each of its slots is free, with the link to the next, and the last has 0.
+  abbrev pub Chained : (ℕ → Slot K) → List ℕ → Type 0
+  Chained at [] = Unit {0}
+  Chained at (s ∷ more) = (at s ≡ free-slot (first-link more)) × Chained at more
+
+  abbrev pub or-free : Option (Slot K) → ℕ → Slot K
+  or-free nil next = free-slot next
+  or-free (some c) next = c
+
+  -- What stands in the slot s: the tree's node there, otherwise a free slot.
+  unfoldable pub slot-of : State K → ℕ → Slot K
+  slot-of st s = or-free (held s (st .tree)) (link-after s (st .free))
+
+  abbrev pub slot-words : Slot K → List ℕ
+  slot-words c = ed .spell (c .key) ++ (c .value ∷ c .left ∷ c .right ∷ [])
+
+  unfoldable pub all-words : State K → List ℕ → List ℕ
+  all-words st [] = []
+  all-words st (s ∷ more) = slot-words (slot-of st s) ++ all-words st more
+
+  -- "Word 0: N, the slots. Word 1: root link. Word 2: size. Word 3: first free link." Then the slots.
+  unfoldable pub words : State K → List ℕ
+  words st =
+      st .slots
+      ∷ link-to (st .tree)
+      ∷ size (st .tree)
+      ∷ first-link (st .free)
+      ∷ all-words st (counting (st .slots) 0)
+
+  -- "Slot s (from 0) is words 4+4s to 7+4s", where a slot takes three words more than a key.
+  abbrev pub slot-size : ℕ
+  slot-size = 3 + ed .width
+
+  abbrev pub place : ℕ → ℕ
+  place s = 4 + slot-size * s
+
+  abbrev pub slot-at : List ℕ → ℕ → Slot K
+  slot-at w s =
+      record {
+        key = ed .key-at w (place s);
+        value = getD w (place s + ed .width) 0;
+        left = getD w (place s + (1 + ed .width)) 0;
+        right = getD w (place s + (2 + ed .width)) 0;
+      }
+
+  -- "Words from 4+4N on are never written."
+  abbrev pub over : State K → List ℕ → List ℕ
+  over st w = words st ++ drop (place (st .slots)) w
+
+  -- The words w are a well-formed arena, and st is what it holds. "An arena is well formed when ..
+  pub record WellFormed (w : List ℕ) (st : State K) : Type 0 where
+    -- .. its length is at least 4 and at least 4+4N, N in range;
+    pub slots : getD w 0 0 ≡ st .slots
+    pub long : place (st .slots) ≤ length w
+    pub some-slot : 1 ≤ st .slots
+    pub in-range : st .slots ≤ most-slots
+    -- size, root and first free link at most N;
+    pub root : getD w 1 0 ≡ link-to (st .tree)
+    pub live : getD w 2 0 ≡ size (st .tree)
+    pub first : getD w 3 0 ≡ first-link (st .free)
+    -- from the root all links are at most N, no slot is met twice,
+    pub nodes : Holds (slot-at w) (st .tree)
+    pub within : (s : ℕ) → st .slots ≤ s → times s (st .tree) ≡ 0
+    pub once : (s : ℕ) → times s (st .tree) ≤ 1
+    -- the nodes number exactly the size, and keys strictly ascend from left to right;
+    pub ascending : Ascending ed (entries (st .tree))
+    -- the free chain's links are at most N and it ends with 0 after exactly N minus size slots, each as above."
+    pub chain : Chained (slot-at w) (st .free)
+    pub chain-within : (s : ℕ) → st .slots ≤ s → listed s (st .free) ≡ 0
+    pub number : size (st .tree) + length (st .free) ≡ st .slots

@@ -1,0 +1,115 @@
+-- The whole calls: making, one command, a run; and what they refuse, in which order. The set's calls are these with its reading.
+use mathlib.Core.List.{List, [], _∷_, _++_}
+use mathlib.Core.Option.{Option, none as nil, some}
+use mathlib.Core.Path.{_≡_}
+use Prim.Native.Nat.{ℕ, zero, suc, _*_, _/_, _%_}
+use lib.Dec.{eqb, leb}
+use lib.ListN.{length, drop}
+use Rattle.rules.specs.Order.{choose}
+use Rattle.rules.specs.Edition.{Edition, most-slots}
+use Rattle.rules.specs.Command.{Command, Code, SIZE, SHORT, DAMAGED, RAGGED, NO-ROOM, number, accepted, Answer, bare, answer-words, command-size, answer-size, command-at}
+use Rattle.rules.specs.Perform.{State, Outcome, new, gives, perform}
+use Rattle.rules.specs.Arena.{WellFormed, place, over}
+use Rattle.rules.specs.Reading.{Reading, read-as, answer-as}
+
+-- What a making gives: the code returned, and the words afterwards.
+pub record Made : Type 0 where
+  pub returned : ℕ
+  pub arena : List ℕ
+
+-- What a call for one command gives: the answer's words, and the arena's afterwards.
+pub record Replied : Type 0 where
+  pub answer : List ℕ
+  pub arena : List ℕ
+
+-- What a run gives: the code returned, and the words of the arena and of the answer buffer afterwards.
+pub record Ran : Type 0 where
+  pub returned : ℕ
+  pub arena : List ℕ
+  pub answers : List ℕ
+
+-- What commands in order give: their answers, and the state after the last.
+pub record Performed (K : Type 0) : Type 0 where
+  pub answers : List (Answer K)
+  pub state : State K
+
+module _ {K : Type 0} (ed : Edition K) where
+  -- Making refuses "10 SIZE: N 0 or above 4,095" and "11 SHORT: fewer than 4+4N words", in this order.
+  unfoldable pub make : ℕ → List ℕ → Made
+  make zero w = record { returned = number SIZE; arena = w }
+  make (suc m) w =
+      choose (leb (suc m) most-slots)
+      (choose (leb (place ed (suc m)) (length w))
+      (record { returned = accepted; arena = over ed (new (suc m)) w })
+      (record { returned = number SHORT; arena = w }))
+      (record { returned = number SIZE; arena = w })
+
+  -- "12 DAMAGED: the arena is not well formed" comes before everything else: a call gives what `f` says of the state that the arena
+  -- holds, or else what it gives where it refuses.
+  pub data Checked {A : Type 0} (w : List ℕ) (f : State K → A) (refused given : A) : Type 0 where
+    well-formed : (st : State K) → WellFormed ed w st → given ≡ f st → Checked w f refused given
+    damaged : ((st : State K) → ¬ WellFormed ed w st) → given ≡ refused → Checked w f refused given
+
+  unfoldable pub perform-as : Reading → Command K → State K → Outcome K
+  perform-as r c st = let o = perform ed (read-as r c) st in gives (answer-as r (o .answer)) (o .state)
+
+  abbrev pub one-on : Reading → Command K → List ℕ → State K → Replied
+  one-on r c w st =
+      let o = perform-as r c st in
+      record { answer = answer-words ed (o .answer); arena = over ed (o .state) w }
+
+  -- "A refused single command answers the code and three zeros."
+  abbrev pub one-refused : List ℕ → Replied
+  one-refused w = record { answer = answer-words ed (bare ed DAMAGED 0); arena = w }
+
+  -- A call for one command on the arena w gives `given`.
+  abbrev pub One : Reading → Command K → List ℕ → Replied → Type 0
+  One r c w given = Checked w (one-on r c w) (one-refused w) given
+
+  -- So many commands, read off a list of words one after the other.
+  unfoldable pub commands : ℕ → List ℕ → List (Command K)
+  commands zero w = []
+  commands (suc n) w = command-at ed w ∷ commands n (drop (command-size ed) w)
+
+  abbrev pub how-many : List ℕ → ℕ
+  how-many w = length w / command-size ed
+
+  -- "13 RAGGED: command words not a multiple of 3", then "14 NO ROOM: fewer than 4 answer words per command".
+  unfoldable pub refusal : List ℕ → ℕ → Option Code
+  refusal w answer-room =
+      choose (eqb (length w % command-size ed) 0)
+      (choose (leb (answer-size ed * how-many w) answer-room) nil (some NO-ROOM))
+      (some RAGGED)
+
+  -- "Does the commands in order."
+  unfoldable pub perform-all : Reading → List (Command K) → State K → Performed K
+  perform-all r [] st = record { answers = []; state = st }
+  perform-all r (c ∷ cs) st =
+      let o = perform-as r c st in
+      let p = perform-all r cs (o .state) in
+      record { answers = o .answer ∷ p .answers; state = p .state }
+
+  unfoldable pub all-answers : List (Answer K) → List ℕ
+  all-answers [] = []
+  all-answers (a ∷ more) = answer-words ed a ++ all-answers more
+
+  -- "Writes each answer after the one before; answer words beyond stay."
+  abbrev pub run-by : Option Code → Reading → List ℕ → List ℕ → List ℕ → State K → Ran
+  run-by (some c) r cs w buffer st = record { returned = number c; arena = w; answers = buffer }
+  run-by nil r cs w buffer st =
+      let p = perform-all r (commands (how-many cs) cs) st in
+      record {
+        returned = accepted;
+        arena = over ed (p .state) w;
+        answers = all-answers (p .answers) ++ drop (answer-size ed * how-many cs) buffer;
+      }
+
+  abbrev pub run-on : Reading → List ℕ → List ℕ → List ℕ → State K → Ran
+  run-on r cs w buffer st = run-by (refusal cs (length buffer)) r cs w buffer st
+
+  abbrev pub run-refused : List ℕ → List ℕ → Ran
+  run-refused w buffer = record { returned = number DAMAGED; arena = w; answers = buffer }
+
+  -- A run of the command words cs on the arena w, with an answer buffer, gives `given`.
+  abbrev pub Run : Reading → List ℕ → List ℕ → List ℕ → Ran → Type 0
+  Run r cs w buffer given = Checked w (run-on r cs w buffer) (run-refused w buffer) given

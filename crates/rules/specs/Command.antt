@@ -1,0 +1,86 @@
+-- Commands, answers and the two tables of codes.
+use mathlib.Core.List.{List, [], _∷_, _++_}
+use Prim.Native.Nat.{ℕ, _+_}
+use lib.ListN.{getD}
+use Rattle.rules.specs.Edition.{Edition}
+
+pub data Command (K : Type 0) : Type 0 where
+  get next prev remove : K → Command K
+  write insert : K → ℕ → Command K
+  min max take-first take-last clear len unknown : Command K
+
+module _ {K : Type 0} where
+  -- The table "No., Command". "Unused words are ignored." A number that is not in the table is no command.
+  abbrev pub command : ℕ → K → ℕ → Command K
+  command n k v =
+      getD
+      (unknown
+      ∷ get k
+      ∷ write k v
+      ∷ next k
+      ∷ prev k
+      ∷ insert k v
+      ∷ remove k
+      ∷ min
+      ∷ max
+      ∷ take-first
+      ∷ take-last
+      ∷ clear
+      ∷ len
+      ∷ [])
+      n
+      unknown
+
+-- The codes of answers, and those with which whole calls refuse.
+pub data Code : Type 0 where
+  FOUND ABSENT NEW REPLACED REMOVED FULL COUNT UNKNOWN : Code
+  SIZE SHORT DAMAGED RAGGED NO-ROOM BAD-LINE : Code
+
+abbrev pub number : Code → ℕ
+number FOUND = 0
+number ABSENT = 1
+number NEW = 2
+number REPLACED = 3
+number REMOVED = 4
+number FULL = 5
+number COUNT = 6
+number UNKNOWN = 7
+number SIZE = 10
+number SHORT = 11
+number DAMAGED = 12
+number RAGGED = 13
+number NO-ROOM = 14
+number BAD-LINE = 15
+
+-- "An accepted making or run returns 0."
+abbrev pub accepted : ℕ
+accepted = 0
+
+-- "An answer is four words: code, key, value, comparisons."
+pub record Answer (K : Type 0) : Type 0 where
+  pub code : Code
+  pub key : K
+  pub value : ℕ
+  pub count : ℕ
+
+module _ {K : Type 0} (ed : Edition K) where
+  -- An answer with a key and a value, and one with zeros for them.
+  abbrev pub telling : Code → K → ℕ → ℕ → Answer K
+  telling c k v n = record { code = c; key = k; value = v; count = n }
+
+  abbrev pub bare : Code → ℕ → Answer K
+  bare c n = telling c (ed .zero-key) 0 n
+
+  abbrev pub answer-words : Answer K → List ℕ
+  answer-words a = number (a .code) ∷ (ed .spell (a .key) ++ (a .value ∷ a .count ∷ []))
+
+  -- The words of a command and of an answer.
+  abbrev pub command-size : ℕ
+  command-size = 2 + ed .width
+
+  abbrev pub answer-size : ℕ
+  answer-size = 3 + ed .width
+
+  -- The command that a list of words begins with: "number, key, value".
+  abbrev pub command-at : List ℕ → Command K
+  command-at w = command (getD w 0 0) (ed .key-at w 1) (getD w (1 + ed .width) 0)

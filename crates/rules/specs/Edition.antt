@@ -1,0 +1,26 @@
+-- What an edition fixes: its keys, their order, and the words that they take. Everything else is said once, for every edition.
+use mathlib.Core.List.{List, [], _∷_}
+use Prim.Native.Nat.{ℕ}
+use lib.ListN.{getD}
+use Rattle.rules.specs.Order.{Order, by-number}
+
+pub record Edition (K : Type 0) : Type 0 where
+  pub order : K → K → Order
+  -- The key of an answer without an entry, and of a free slot.
+  pub zero-key : K
+  -- How many words a key takes; its words; and the key whose words begin at a place in a list.
+  pub width : ℕ
+  pub spell : K → List ℕ
+  pub key-at : List ℕ → ℕ → K
+
+-- "All words are unsigned, 32 bits. M is 4294967295."
+abbrev pub M : ℕ
+M = 4294967295
+
+-- "N, the slots, 1 to 4,095."
+abbrev pub most-slots : ℕ
+most-slots = 4095
+
+-- Keys of one word, "group times 65536 plus element".
+abbrev pub tags : Edition ℕ
+tags = record { order = by-number; zero-key = 0; width = 1; spell = λ k. k ∷ []; key-at = λ w i. getD w i 0 }

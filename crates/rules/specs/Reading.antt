@@ -1,0 +1,37 @@
+-- How the map and the set read a command and word an answer.
+use Prim.Native.Nat.{ℕ}
+use lib.Dec.{eqb}
+use Rattle.rules.specs.Order.{choose}
+use Rattle.rules.specs.Command.{Command, get, next, prev, remove, write, insert, min, max, take-first, take-last, clear, len, unknown, Code, COUNT, number, Answer}
+
+pub data Reading : Type 0 where
+  as-map as-set : Reading
+
+-- The set "gives 0 for every entry's value, old values too; COUNT and refusals are as the map's", where every refusal has value 0.
+abbrev pub value-as : Reading → Code → ℕ → ℕ
+value-as as-map c v = v
+value-as as-set c v = choose (eqb (number c) (number COUNT)) v 0
+
+module _ {K : Type 0} where
+  -- The set "takes the same commands but 2, which is UNKNOWN there"; "its inserts store value 0".
+  abbrev pub set-command : Command K → Command K
+  set-command (get k) = get k
+  set-command (write k v) = unknown
+  set-command (next k) = next k
+  set-command (prev k) = prev k
+  set-command (insert k v) = insert k 0
+  set-command (remove k) = remove k
+  set-command min = min
+  set-command max = max
+  set-command take-first = take-first
+  set-command take-last = take-last
+  set-command clear = clear
+  set-command len = len
+  set-command unknown = unknown
+
+  abbrev pub read-as : Reading → Command K → Command K
+  read-as as-map c = c
+  read-as as-set c = set-command c
+
+  abbrev pub answer-as : Reading → Answer K → Answer K
+  answer-as r a = record { code = a .code; key = a .key; value = value-as r (a .code) (a .value); count = a .count }

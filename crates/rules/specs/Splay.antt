@@ -1,0 +1,83 @@
+-- "The splay, step by step": simplified top-down splaying as a function on trees, with its comparisons counted.
+use mathlib.Core.Bool.{Bool, true, false}
+use Prim.Native.Nat.{ℕ, zero, suc}
+use Rattle.rules.specs.Order.{Side, left, right, Order, equal, toward, is-toward, of-side}
+use Rattle.rules.specs.Tree.{Entry, Tree, none, node, fork, hang, size}
+
+-- The left tree and the right tree gathered so far, and the comparisons made.
+pub record Gathered (K : Type 0) : Type 0 where
+  pub lefts : Tree K
+  pub rights : Tree K
+  pub count : ℕ
+
+-- What a step ends in: the walk stops at a node, or goes on at the node below. Each is given as the tree whose root it is.
+pub data Step (K : Type 0) : Type 0 where
+  stop go-on : Tree K → Gathered K → Step K
+
+pub record Splayed (K : Type 0) : Type 0 where
+  pub tree : Tree K
+  pub count : ℕ
+
+module _ {K : Type 0} where
+  -- "an empty left tree and right tree"
+  abbrev pub nothing : Gathered K
+  nothing = record { lefts = none; rights = none; count = 0 }
+
+  -- "Each comparison counts one."
+  abbrev pub tick : Gathered K → Gathered K
+  tick g = record { lefts = g .lefts; rights = g .rights; count = suc (g .count) }
+
+  -- A tree joins the right tree at its smallest end where the walk goes left, and the left tree at its largest end where it goes right.
+  abbrev pub join : Side → Tree K → Gathered K → Gathered K
+  join left t g = record { lefts = g .lefts; rights = hang left (g .rights) t; count = g .count }
+  join right t g = record { lefts = hang right (g .lefts) t; rights = g .rights; count = g .count }
+
+  -- "If it then has no left child, stop. Then link: the node joins the right tree at its smallest end, and its left child becomes the
+  -- node." The node is e; `near` is its child on the side s of the key, `far` the other.
+  abbrev pub link : Side → Entry K → Tree K → Tree K → Gathered K → Step K
+  link s e none far g = stop (fork s e none far) g
+  link s e (node c l r) far g = go-on (node c l r) (join s (fork s e none far) g)
+
+  -- "If less again, rotate right, so the child is now the node." The child is c; `near` is its own child on the side s, `mid` the other.
+  abbrev pub beside : Bool → Side → Entry K → Entry K → Tree K → Tree K → Tree K → Gathered K → Step K
+  beside true s e c near mid far g = link s c near (fork s e mid far) g
+  beside false s e c near mid far g = link s e (fork s c near mid) far g
+
+  -- "At the stop the node's left subtree goes to the right end of the left tree, its right subtree to the left end of the right tree,
+  -- and the two trees become the node's children."
+  abbrev pub assemble : Tree K → Gathered K → Splayed K
+  assemble none g = record { tree = none; count = g .count }
+  assemble (node e l r) g =
+      record { tree = node e (hang right (g .lefts) l) (hang left (g .rights) r); count = g .count }
+
+  -- After a step: the trees are assembled at the stop, or the walk goes on.
+  abbrev pub go-by : (Tree K → Gathered K → Splayed K) → Step K → Splayed K
+  go-by further (stop t g) = assemble t g
+  go-by further (go-on t g) = further t g
+
+  module _ (cmp : K → K → Order) (k : K) where
+    -- "Less: if there is no left child, stop. Otherwise compare with the child."
+    abbrev pub look : Side → Entry K → Tree K → Tree K → Gathered K → Step K
+    look s e none far g = stop (fork s e none far) g
+    look s e (node c l r) far g =
+        beside (is-toward s (cmp k (c .key))) s e c (of-side s l r) (of-side s r l) far (tick g)
+
+    -- "Equal: stop. Less: .. Greater: the mirror image."
+    abbrev pub turn : Order → Entry K → Tree K → Tree K → Gathered K → Step K
+    turn equal e l r g = stop (node e l r) g
+    turn (toward left) e l r g = look left e l r g
+    turn (toward right) e l r g = look right e r l g
+
+    -- "Compare the key with the node." An empty tree has no node: nothing is compared, and what was gathered is lost.
+    abbrev pub step : Tree K → Gathered K → Step K
+    step none g = stop none g
+    step (node e l r) g = turn (cmp k (e .key)) e l r (tick g)
+
+    -- At most n steps.
+    unfoldable pub walk : ℕ → Tree K → Gathered K → Splayed K
+    walk zero t g = assemble t g
+    walk (suc n) t g = go-by (walk n) (step t g)
+
+    -- "Start at the root with an empty left tree and right tree." Each step goes on at a smaller tree, so a step for each node is enough.
+    unfoldable pub splay : Tree K → Splayed K
+    splay t = walk (size t) t nothing
