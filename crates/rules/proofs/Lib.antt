@@ -1,5 +1,21 @@
--- Laws of the definitions.
+-- Laws of the definitions, bottom up.
+-- The order of keys; the splay's rules and what it keeps; ascending lists, and where the splay parts them.
 pub mod Order
 pub mod Splay
+pub mod Ascending
+pub mod After
+pub mod Parted
+-- Slots counted; what slots hold; well-formed arenas and their states.
+pub mod Hit
+pub mod Pigeons
+pub mod Held
 pub mod Sound
+pub mod WellFormed
+pub mod Words
+-- What the commands do to the live entries and to the slots; lists of commands.
+pub mod Brought
+pub mod Performed
+pub mod Kept
+pub mod Run
+-- The table.
 pub mod Twelve

@@ -5,7 +5,7 @@ use Prim.Native.Nat.{ℕ, zero, suc, _+_, _<_, _≤_, compare·zero-suc, compare
 use native.Mathlib.Numerals.{add-one}
 use native.Mathlib.Omega.{arith}
 use lib.ListN.{length, getD, drop}
-use lib.Seq.{drop-cons}
+use lib.Seq.{drop-cons, getD-append-seam}
 use Rattle.rules.specs.Order.{Side, left, right, other, Order, equal, toward, by-number}
 use Rattle.rules.specs.Edition.{Edition, tags}
 
@@ -15,6 +15,7 @@ pub record Lawful {K : Type 0} (ed : Edition K) : Type 0 where
   pub chain : (s : Side) (a b c : K) → ed .order a b ≡ toward s → ed .order b c ≡ toward s → ed .order a c ≡ toward s
   pub spell-length : (k : K) → length (ed .spell k) ≡ ed .width
   pub respell : (w : List ℕ) (i : ℕ) → i + ed .width ≤ length w → drop i w ≡ ed .spell (ed .key-at w i) ++ drop (i + ed .width) w
+  pub reread : (a : List ℕ) (k : K) (b : List ℕ) → ed .key-at (a ++ (ed .spell k ++ b)) (length a) ≡ k
 
 -- What an order says of two numbers.
 abbrev pub Says : Order → ℕ → ℕ → Type 0
@@ -68,6 +69,7 @@ tags-lawful =
           order-from (toward s) a c (chained s a b c (order-says (toward s) a b e) (order-says (toward s) b c f));
       spell-length = λ k. refl;
       respell = λ w i h. rw (add-one) (drop-cons w i 0 (omega arith));
+      reread = λ a k b. getD-append-seam a k b 0;
     }
 
 -- Sides.

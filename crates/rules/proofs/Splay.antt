@@ -214,3 +214,9 @@ module _ {K : Type 0} (cmp : K → K → Order) (k : K) where
       by : (t : Tree K) → size t ≡ size (node e l r) → Real t
       by none e = absurd (omega arith)
       by (node x a b) e = tt
+
+  -- The last rule, with the child as its own children on the side s and on the other.
+  pub link-fork : (s : Side) (e c : Entry K) (near mid far : Tree K) (g : Gathered K) (z : Splayed K) → cmp k (e .key) ≡ toward s → is-toward s (cmp k (c .key)) ≡ false
+      → Splays (fork s c near mid) (join s (fork s e none far) (tick (tick g))) z → Splays (fork s e (fork s c near mid) far) g z
+  link-fork left e c near mid far g z p q d = just-link left e c near mid far g z p q d
+  link-fork right e c near mid far g z p q d = just-link right e c mid near far g z p q d

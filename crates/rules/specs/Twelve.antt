@@ -64,13 +64,15 @@ twelve =
     ∷ row (next 1) (quad 0 9 91 3) (two (quad 2 1 2 0) (quad 1 10 0 2) (quad 9 91 0 0))
     ∷ row take-last (quad 4 9 91 0) (two (quad 2 1 1 2) (quad 1 10 0 0) (quad 0 0 0 M))
     ∷ [])
-    -- P10
+    -- P10, and a row more
     ∷ story 4 (four (quad 4 0 0 1) (quad 0 0 2 M) (quad 0 0 3 M) (quad 0 0 4 M) (quad 0 0 0 M))
     (before (insert 1 0)
     ∷ before (insert 2 0)
     ∷ before (insert 3 0)
     ∷ before (insert 4 0)
     ∷ row (get 1) (quad 0 1 0 6) (four (quad 4 1 4 0) (quad 1 0 0 3) (quad 2 0 0 0) (quad 3 0 2 4) (quad 4 0 0 0))
+    -- Not in document 01: a remove whose left subtree has its largest key below its root, so that the second splay shows.
+    ∷ row (remove 3) (quad 4 3 0 6) (four (quad 4 2 3 3) (quad 1 0 0 0) (quad 2 0 1 4) (quad 0 0 0 M) (quad 4 0 0 0))
     ∷ [])
     -- P11 and P12
     ∷ story 2 (two (quad 2 0 0 1) (quad 0 0 2 M) (quad 0 0 0 M))

@@ -1,0 +1,26 @@
+-- A tree that stands in an arena's words, and the words that a call may change.
+use mathlib.Core.List.{List}
+use mathlib.Core.Path.{_≡_}
+use Prim.Native.Nat.{ℕ, suc, _≤_, _<_}
+use lib.ListN.{length, getD}
+use Rattle.rules.specs.Edition.{Edition}
+use Rattle.rules.specs.Tree.{Tree, times, link-to}
+use Rattle.rules.specs.Arena.{Holds, place, slot-at}
+
+-- The length and the header are as they were.
+pub record Kept (w w′ : List ℕ) : Type 0 where
+  pub len : length w′ ≡ length w
+  pub header : (i : ℕ) → i < 4 → getD w′ i 0 ≡ getD w i 0
+
+module _ {K : Type 0} (ed : Edition K) where
+  -- The tree t stands at the link x: each node's slot holds it, no slot holds two, and each lies within the words.
+  pub record Stands (w : List ℕ) (x : ℕ) (t : Tree K) : Type 0 where
+    pub at : x ≡ link-to t
+    pub holds : Holds (slot-at ed w) t
+    pub once : (s : ℕ) → times s t ≤ 1
+    pub inside : (s : ℕ) → length w < place ed (suc s) → times s t ≡ 0
+
+  -- Only slots s with f s above 0 may have changed: the length, the header and every other slot are as they were.
+  pub record Changed (f : ℕ → ℕ) (w w′ : List ℕ) : Type 0 where
+    pub kept : Kept w w′
+    pub same : (s : ℕ) → f s ≡ 0 → slot-at ed w′ s ≡ slot-at ed w s
