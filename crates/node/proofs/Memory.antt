@@ -8,7 +8,7 @@ use Rattle.rules.specs.Order.{Side, left, right, other, of-side}
 use Rattle.rules.specs.Tree.{Entry, Tree, none, node, fork, hit, times, weigh, link-to}
 use Rattle.rules.specs.Arena.{Slot, content, Holds}
 use Rattle.rules.proofs.Hit.{hit-same, hit-other, hit-ne}
-use Rattle.rules.proofs.Splay.{weigh-fork}
+use Rattle.rules.proofs.Splay.{Real, weigh-fork}
 
 module _ {K : Type 0} where
   -- What a node's slot holds, by the links to its child on the side d and to the other.
@@ -72,6 +72,11 @@ module _ {K : Type 0} where
   pub no-link : (t : Tree K) → link-to t ≡ 0 → t ≡ none
   no-link none h = refl
   no-link (node e l r) h = absurd (omega arith)
+
+  -- A tree whose link is not 0 has a node.
+  pub real-link : (t : Tree K) → 0 < link-to t → Real t
+  real-link none h = absurd (omega arith)
+  real-link (node e l r) h = tt
 
   -- Only slots s with f s above 0 may have changed.
   abbrev pub Same : (ℕ → ℕ) → (ℕ → Slot K) → (ℕ → Slot K) → Type 0

@@ -8,13 +8,8 @@ use lib.Seq.{getD-set-same, getD-set-other}
 use Rattle.rules.specs.Order.{Side, left, right, other}
 use Rattle.rules.specs.Edition.{tags}
 use Rattle.rules.specs.Arena.{Slot, slot-at}
-use Rattle.node.specs.Stands.{Kept}
+use Rattle.node.specs.Stands.{off, Kept}
 use Rattle.node.proofs.Memory.{link-on, with-link, Relinked}
-
--- The word of a slot that holds the link on a side.
-abbrev pub off : Side → ℕ
-off left = 2
-off right = 3
 
 pub off-low : (d : Side) → off d < 4
 off-low left = omega arith

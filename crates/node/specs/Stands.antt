@@ -2,10 +2,25 @@
 use mathlib.Core.List.{List}
 use mathlib.Core.Path.{_≡_}
 use Prim.Native.Nat.{ℕ, suc, _≤_, _<_}
+use lib.Dec.{eqb}
 use lib.ListN.{length, getD}
+use Rattle.rules.specs.Order.{Side, left, right, other, choose}
 use Rattle.rules.specs.Edition.{Edition}
 use Rattle.rules.specs.Tree.{Tree, times, link-to}
 use Rattle.rules.specs.Arena.{Holds, place, slot-at}
+
+-- The word of a slot that holds the link on a side; and the side whose word it is.
+abbrev pub off : Side → ℕ
+off left = 2
+off right = 3
+
+abbrev pub side-of : ℕ → Side
+side-of p = choose (eqb p 2) left right
+
+-- The words p and q of a slot hold its links on a side and on the other.
+pub record Sided (p q : ℕ) : Type 0 where
+  pub near : p ≡ off (side-of p)
+  pub far : q ≡ off (other (side-of p))
 
 -- The length and the header are as they were.
 pub record Kept (w w′ : List ℕ) : Type 0 where
@@ -18,7 +33,7 @@ module _ {K : Type 0} (ed : Edition K) where
     pub at : x ≡ link-to t
     pub holds : Holds (slot-at ed w) t
     pub once : (s : ℕ) → times s t ≤ 1
-    pub inside : (s : ℕ) → length w < place ed (suc s) → times s t ≡ 0
+    pub inside : (s : ℕ) → 1 ≤ times s t → place ed (suc s) ≤ length w
 
   -- Only slots s with f s above 0 may have changed: the length, the header and every other slot are as they were.
   pub record Changed (f : ℕ → ℕ) (w w′ : List ℕ) : Type 0 where
