@@ -27,6 +27,10 @@ module _ {K : Type 0} where
   on-key left e x y = refl
   on-key right e x y = refl
 
+  pub on-value : (d : Side) (e : Entry K) (x y : ℕ) → on d e x y .value ≡ e .value
+  on-value left e x y = refl
+  on-value right e x y = refl
+
   pub on-near : (d : Side) (e : Entry K) (x y : ℕ) → link-on d (on d e x y) ≡ x
   on-near left e x y = refl
   on-near right e x y = refl

@@ -8,7 +8,7 @@ use lib.Seq.{getD-set-same, getD-set-other}
 use Rattle.rules.specs.Order.{Side, left, right, other}
 use Rattle.rules.specs.Edition.{tags}
 use Rattle.rules.specs.Arena.{Slot, slot-at}
-use Rattle.node.specs.Stands.{off, Kept}
+use Rattle.node.specs.Stands.{off, Kept, Filled}
 use Rattle.node.proofs.Memory.{link-on, with-link, Relinked}
 
 pub off-low : (d : Side) → off d < 4
@@ -95,3 +95,26 @@ kept-trans p q = record { len = q .len ∙ p .len; header = λ i h. q .header i 
 pub kept-set : {w w′ : List ℕ} {x : ℕ} (j v : ℕ) → 0 < x → w′ ≡ set w (4 * x + j) v → Kept w w′
 kept-set {w} {w′} {x} j v p q =
     rw q record { len = length-set w (4 * x + j) v; header = λ i h. getD-set-other w (4 * x + j) i v 0 (omega arith) }
+
+-- The four words of a slot, stored one by one.
+pub fills : (x k v l r : ℕ) (w w₁ w₂ w₃ : List ℕ) {w₄ : List ℕ} → 0 < x → 4 * x + 3 < length w
+    → w₁ ≡ set w (4 * x + 0) k → w₂ ≡ set w₁ (4 * x + 1) v → w₃ ≡ set w₂ (4 * x + 2) l → w₄ ≡ set w₃ (4 * x + 3) r
+    → Filled x (record { key = k; value = v; left = l; right = r }) w w₄
+fills zero k v l r w w₁ w₂ w₃ p b q₁ q₂ q₃ q₄ = absurd (omega arith)
+fills (suc t) k v l r w w₁ w₂ w₃ {w₄} p b q₁ q₂ q₃ q₄ =
+    let k₁ : Kept w w₁ = kept-set 0 k p q₁ in
+    let k₂ : Kept w w₂ = kept-trans k₁ (kept-set 1 v p q₂) in
+    let k₃ : Kept w w₃ = kept-trans k₂ (kept-set 2 l p q₃) in
+    let p₁ : Put 0 t k (slots w) (slots w₁) = put-at w 0 k refl b (omega arith) q₁ in
+    let p₂ : Put 1 t v (slots w₁) (slots w₂) = put-at w₁ 1 v refl (omega (arith, k₁ .len)) (omega arith) q₂ in
+    let p₃ : Put 2 t l (slots w₂) (slots w₃) = put-at w₂ 2 l refl (omega (arith, k₂ .len)) (omega arith) q₃ in
+    let p₄ : Put 3 t r (slots w₃) (slots w₄) = put-at w₃ 3 r refl (omega (arith, k₃ .len)) (omega arith) q₄ in
+    let half : slots w₂ t ≡ with-word 1 v (with-word 0 k (slots w t)) = p₂ .here ∙ ap (with-word 1 v) (p₁ .here) in
+    let all : slots w₄ t ≡ record { key = k; value = v; left = l; right = r } = p₄ .here ∙ ap (with-word 3 r) (p₃ .here ∙ ap (with-word 2 l) half) in
+    record {
+      kept = kept-trans k₃ (kept-set 3 r p q₄);
+      here = λ s e. (let e′ : s ≡ t = omega arith in rw e′ all);
+      elsewhere = λ s n.
+          (let d : s ≡ t → ⊥ = λ e. n (ap suc (sym e)) in
+          p₄ .elsewhere s d ∙ p₃ .elsewhere s d ∙ p₂ .elsewhere s d ∙ p₁ .elsewhere s d);
+    }

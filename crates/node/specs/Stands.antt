@@ -5,9 +5,9 @@ use Prim.Native.Nat.{ℕ, suc, _≤_, _<_}
 use lib.Dec.{eqb}
 use lib.ListN.{length, getD}
 use Rattle.rules.specs.Order.{Side, left, right, other, choose}
-use Rattle.rules.specs.Edition.{Edition}
+use Rattle.rules.specs.Edition.{Edition, tags}
 use Rattle.rules.specs.Tree.{Tree, times, link-to}
-use Rattle.rules.specs.Arena.{Holds, place, slot-at}
+use Rattle.rules.specs.Arena.{Slot, Holds, place, slot-at}
 
 -- The word of a slot that holds the link on a side; and the side whose word it is.
 abbrev pub off : Side → ℕ
@@ -39,3 +39,9 @@ module _ {K : Type 0} (ed : Edition K) where
   pub record Changed (f : ℕ → ℕ) (w w′ : List ℕ) : Type 0 where
     pub kept : Kept w w′
     pub same : (s : ℕ) → f s ≡ 0 → slot-at ed w′ s ≡ slot-at ed w s
+
+-- The slot that the link x leads to holds c. Every other slot, the header and the length are as they were.
+pub record Filled (x : ℕ) (c : Slot ℕ) (w w′ : List ℕ) : Type 0 where
+  pub kept : Kept w w′
+  pub here : (s : ℕ) → x ≡ suc s → slot-at tags w′ s ≡ c
+  pub elsewhere : (s : ℕ) → (x ≡ suc s → ⊥) → slot-at tags w′ s ≡ slot-at tags w s

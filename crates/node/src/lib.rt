@@ -3,6 +3,7 @@
 ghost use mathlib.Core.Path.{_≡_};
 ghost use Prim.Native.Nat.{ℕ, _+_, _*_, _<_, _≤_};
 ghost use lib.ListN.{length, getD, set};
+ghost use Rattle.node.specs.Stands.{Filled};
 
 // The word j of the slot that the link x leads to.
 pub fn word(a: &[u32], x: u32, j: usize) -> u32
@@ -20,4 +21,15 @@ pub fn put(a: &mut [u32], x: u32, j: usize, v: u32)
 {
     let i = 4 * (x as usize) + j;
     a[i] = v;
+}
+
+// The slot that the link x leads to holds this key, this value and these links.
+pub fn fill(a: &mut [u32], x: u32, key: u32, value: u32, left: u32, right: u32)
+    requires { ⌜ (0 < x) × (4 * x + 3 < length (now a)) ⌝ }
+    ensures { λ _. ⌜ Filled x (record { key = key; value = value; left = left; right = right }) (now (a .entry)) (now (a .exit)) ⌝ }
+{
+    put(a, x, 0, key);
+    put(a, x, 1, value);
+    put(a, x, 2, left);
+    put(a, x, 3, right);
 }

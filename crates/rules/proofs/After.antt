@@ -1,15 +1,12 @@
 -- Every command of demand 3 keeps an ascending list of pairs ascending.
-use mathlib.Core.Bool.{Bool, true, false}
 use mathlib.Core.List.{List, [], _∷_}
 use mathlib.Core.Option.{Option, none as nil, some}
 use mathlib.Core.Path.{_≡_, refl}
 use Prim.Native.Nat.{ℕ}
-use lib.Dec.{eqb}
-use lib.ListN.{length}
-use Rattle.rules.specs.Order.{left, right, Order, equal, toward, choose}
+use Rattle.rules.specs.Order.{left, right, Order, equal, toward, by-order}
 use Rattle.rules.specs.Edition.{Edition}
 use Rattle.rules.specs.Command.{Command, get, next, prev, remove, write, insert, min, max, take-first, take-last, clear, len, unknown}
-use Rattle.rules.specs.Live.{Pair, by-order, but-first, but-last, Before, Ascending, find, put, without, pair, if-there, after}
+use Rattle.rules.specs.Live.{Pair, Storing, replaces, is-full, adds, but-first, but-last, Before, Ascending, find, put, without, pair, storing, stored, if-there, after}
 use Rattle.rules.proofs.Order.{Lawful}
 use Rattle.rules.proofs.Ascending.{before-lies, lies-before, lies-on}
 
@@ -78,9 +75,10 @@ module _ {K : Type 0} (ed : Edition K) (laws : Lawful ed) where
   if-there-ascending nil a b h p = p
   if-there-ascending (some x) a b h p = h
 
-  choose-ascending : (t : Bool) (a b : List (Pair K)) → Ascending ed a → Ascending ed b → Ascending ed (choose t a b)
-  choose-ascending true a b h p = h
-  choose-ascending false a b h p = p
+  stored-ascending : (s : Storing K) (p : Pair K) (l : List (Pair K)) → Ascending ed l → Ascending ed (stored ed s p l)
+  stored-ascending (replaces q) p l h = put-ascending p l h
+  stored-ascending is-full p l h = h
+  stored-ascending adds p l h = put-ascending p l h
 
   pub after-ascending : (n : ℕ) (c : Command K) (l : List (Pair K)) → Ascending ed l → Ascending ed (after ed n c l)
   unfolding after
@@ -89,8 +87,7 @@ module _ {K : Type 0} (ed : Edition K) (laws : Lawful ed) where
   after-ascending n (next k) l h = h
   after-ascending n (prev k) l h = h
   after-ascending n (insert k v) l h =
-      let p = put-ascending (pair ed k v) l h in
-      if-there-ascending (find ed k l) _ _ p (choose-ascending (eqb (length l) n) _ _ h p)
+      stored-ascending (storing ed n k l) (pair ed k v) l h
   after-ascending n (remove k) l h = without-ascending k l h
   after-ascending n min l h = h
   after-ascending n max l h = h

@@ -6,9 +6,9 @@ use mathlib.Core.Option.{Option, none as nil, some}
 use mathlib.Core.Path.{_≡_, refl, _∙_}
 use Prim.Native.Nat.{ℕ}
 use native.Mathlib.Omega.{arith}
-use Rattle.rules.specs.Order.{Side, left, right, toward, is-toward, choose}
+use Rattle.rules.specs.Order.{Side, left, right, toward, is-toward, by-order, choose}
 use Rattle.rules.specs.Edition.{Edition}
-use Rattle.rules.specs.Live.{Pair, or-else, by-order, first, last, but-last, Before, Ascending, find, above, below, put, without}
+use Rattle.rules.specs.Live.{Pair, or-else, first, last, but-last, Before, Ascending, find, above, below, put, without}
 use Rattle.rules.proofs.Order.{Lawful}
 
 module _ {K : Type 0} where

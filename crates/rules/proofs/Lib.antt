@@ -1,7 +1,8 @@
 -- Laws of the definitions, bottom up.
--- The order of keys; the splay's rules and what it keeps; ascending lists, and where the splay parts them.
+-- The order of keys; the splay's rules, what it keeps and where it ends; ascending lists, and where the splay parts them.
 pub mod Order
 pub mod Splay
+pub mod Path
 pub mod Ascending
 pub mod After
 pub mod Parted
@@ -9,6 +10,7 @@ pub mod Parted
 pub mod Hit
 pub mod Pigeons
 pub mod Held
+pub mod Chain
 pub mod Sound
 pub mod WellFormed
 pub mod Words
@@ -16,6 +18,8 @@ pub mod Words
 pub mod Brought
 pub mod Performed
 pub mod Kept
+pub mod Nearest
 pub mod Run
--- The table.
+-- The table of twelve arenas, and more cases.
 pub mod Twelve
+pub mod Cases

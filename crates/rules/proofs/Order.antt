@@ -1,10 +1,10 @@
 -- What is asked of an edition, and that keys of one word have it: an order that is total and transitive, and words that spell a key.
-use mathlib.Core.List.{List, [], _∷_, _++_}
+use mathlib.Core.List.{List, _++_}
 use mathlib.Core.Path.{_≡_, refl}
 use Prim.Native.Nat.{ℕ, zero, suc, _+_, _<_, _≤_, compare·zero-suc, compare·suc-zero, compare·suc-suc}
 use native.Mathlib.Numerals.{add-one}
 use native.Mathlib.Omega.{arith}
-use lib.ListN.{length, getD, drop}
+use lib.ListN.{length, drop}
 use lib.Seq.{drop-cons, getD-append-seam}
 use Rattle.rules.specs.Order.{Side, left, right, other, Order, equal, toward, by-number}
 use Rattle.rules.specs.Edition.{Edition, tags}

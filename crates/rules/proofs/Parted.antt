@@ -43,16 +43,16 @@ module _ {K : Type 0} (ed : Edition K) where
 
     -- The gathered trees have the key between them.
     abbrev Between : Gathered K → Type 0
-    Between g = Aside right k (g .lefts) × Aside left k (g .rights)
+    Between g = Aside right k (g .left-tree) × Aside left k (g .right-tree)
 
     between-join : (s : Side) (t : Tree K) (g : Gathered K) → Aside s k t → Between g → Between (join s t g)
-    between-join left t g h b = (b .0, aside-hang left left (g .rights) t (b .1) h)
-    between-join right t g h b = (aside-hang right right (g .lefts) t (b .0) h, b .1)
+    between-join left t g h b = (b .0, aside-hang left left (g .right-tree) t (b .1) h)
+    between-join right t g h b = (aside-hang right right (g .left-tree) t (b .0) h, b .1)
 
     -- Where the walk stops, the gathered trees become the children.
     stopped : (e : Entry K) (l r : Tree K) (g : Gathered K) → Aside right k l → Aside left k r → Between g
         → Parted k (assemble (node e l r) g .tree)
-    stopped e l r g hl hr b = (aside-hang right right (g .lefts) l (b .0) hl, aside-hang left left (g .rights) r (b .1) hr)
+    stopped e l r g hl hr b = (aside-hang right right (g .left-tree) l (b .0) hl, aside-hang left left (g .right-tree) r (b .1) hr)
 
     childless : (s : Side) (e : Entry K) (far : Tree K) (g : Gathered K) → Aside s k far → Between g
         → Parted k (assemble (fork s e none far) g .tree)

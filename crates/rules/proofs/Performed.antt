@@ -6,10 +6,10 @@ use mathlib.Core.Option.{Option, none as nil, some}
 use mathlib.Core.Path.{_≡_, refl, sym, _∙_}
 use Prim.Native.Nat.{ℕ, suc}
 use native.Mathlib.Omega.{arith}
-use Rattle.rules.specs.Order.{Side, left, right, other, Order, equal, toward, is-toward, choose}
+use Rattle.rules.specs.Order.{Side, left, right, other, Order, equal, toward, is-toward, by-order, choose}
 use Rattle.rules.specs.Edition.{Edition}
-use Rattle.rules.specs.Command.{Command, get, next, prev, remove, write, insert, min, max, take-first, take-last, clear, len, unknown, FOUND, REMOVED, Answer}
-use Rattle.rules.specs.Live.{Pair, Reply, or-else, by-order, first, last, but-first, but-last, Ascending, find, above, below, put, without, pair, with-entry, after, reply}
+use Rattle.rules.specs.Command.{Command, get, next, prev, remove, write, insert, min, max, take-first, take-last, clear, len, unknown, FOUND, REMOVED, Answer, said}
+use Rattle.rules.specs.Live.{Pair, or-else, first, last, but-first, but-last, Ascending, find, above, below, put, without, pair, with-entry, after, reply}
 use Rattle.rules.specs.Tree.{Entry, Tree, none, node, fork, pair-of, entries}
 use Rattle.rules.specs.Splay.{splay}
 use Rattle.rules.specs.Perform.{State, Outcome, new, Met, Room, outermost, if-present, found, replaced, removed, inserted, entry-or, seek, neighbour, outer, raise, taken, perform}
@@ -20,10 +20,6 @@ use Rattle.rules.proofs.Ascending.{first-at, last-at, but-last-end, Lie
 use Rattle.rules.proofs.Brought.{entries-length, Roomed, no-slot, a-slot, rooms, Root, Brought, no-root, a-root, brings, hung}
 
 module _ {K : Type 0} where
-  -- What an answer says besides its comparisons.
-  abbrev pub said : Answer K → Reply K
-  said a = record { code = a .code; key = a .key; value = a .value }
-
   -- The pair of an entry where there is one.
   abbrev known : Option (Entry K) → Option (Pair K)
   known nil = nil

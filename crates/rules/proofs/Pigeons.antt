@@ -90,3 +90,9 @@ total-full (suc n) f h e s b = by (hit-cases s n) (λ k. total-full n f h (omega
 -- A tree that meets no slot twice, and none from n on, has at most n nodes.
 pub few : {K : Type 0} (n : ℕ) (t : Tree K) → ((s : ℕ) → times s t ≤ 1) → ((s : ℕ) → n ≤ s → times s t ≡ 0) → size t ≤ n
 few n t once within = omega (arith, total-times n t within, total-few n (λ s. times s t) once)
+
+-- A slot that is met is below n, where those from n on are not.
+pub below : (n s c : ℕ) → (n ≤ s → c ≡ 0) → 1 ≤ c → s < n
+below zero s c f p = absurd (let e = f (omega arith) in omega arith)
+below (suc n) zero c f p = omega arith
+below (suc n) (suc s) c f p = let q = below n s c (λ h. f (omega arith)) p in omega arith

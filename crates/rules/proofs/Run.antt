@@ -3,16 +3,16 @@ use mathlib.Core.List.{List, [], _∷_, _++_, map}
 use mathlib.Core.Path.{_≡_, refl, ap}
 use lib.ListN.{length}
 use Rattle.rules.specs.Edition.{Edition}
-use Rattle.rules.specs.Command.{Command}
-use Rattle.rules.specs.Live.{Reply, after}
+use Rattle.rules.specs.Command.{Command, said}
+use Rattle.rules.specs.Live.{after, reply}
 use Rattle.rules.specs.Tree.{entries}
 use Rattle.rules.specs.Perform.{State}
-use Rattle.rules.specs.Reading.{Reading, read-as, value-as}
+use Rattle.rules.specs.Reading.{Reading, read-as, reply-as}
 use Rattle.rules.specs.Calls.{Performed, perform-as, perform-all}
-use Rattle.rules.specs.History.{after-all, reply-as, replies-all}
+use Rattle.rules.specs.History.{after-all, replies-all}
 use Rattle.rules.proofs.Order.{Lawful}
 use Rattle.rules.proofs.Sound.{Sound}
-use Rattle.rules.proofs.Performed.{said, perform-live}
+use Rattle.rules.proofs.Performed.{perform-live}
 use Rattle.rules.proofs.Kept.{perform-slots, perform-sound}
 
 module _ {K : Type 0} where
@@ -50,13 +50,10 @@ module _ {K : Type 0} (ed : Edition K) (r : Reading) where
 
     pub perform-as-live : (c : Command K) (st : State K) → Sound ed st
         → (entries (perform-as ed r c st .state .tree) ≡ after ed (st .slots) (read-as r c) (entries (st .tree)))
-        × (said (perform-as ed r c st .answer) ≡ reply-as ed (st .slots) r c (entries (st .tree)))
+        × (said (perform-as ed r c st .answer) ≡ reply-as r (reply ed (st .slots) (read-as r c) (entries (st .tree))))
     unfolding perform-as
     perform-as-live c st h =
-        let p = perform-live ed laws (read-as r c) st h in (p .0, ap read (p .1))
-      where
-        read : Reply K → Reply K
-        read p = record { code = p .code; key = p .key; value = value-as r (p .code) (p .value) }
+        let p = perform-live ed laws (read-as r c) st h in (p .0, ap (reply-as r) (p .1))
 
     pub perform-all-sound : (cs : List (Command K)) (st : State K) → Sound ed st → Sound ed (perform-all ed r cs st .state)
     unfolding perform-all

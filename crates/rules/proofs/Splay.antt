@@ -1,14 +1,14 @@
 -- The splay as rules, one for each way that a step of document 01 can go, for arguments by induction: the function obeys them, and
 -- they give nothing else. Then what the splay keeps: the entries in order, and every slot.
 use mathlib.Core.Bool.{Bool, true, false}
-use mathlib.Core.List.{List, [], _∷_, _++_, append-assoc, append-nil}
-use mathlib.Core.Path.{_≡_, refl, sym, _∙_, ap}
+use mathlib.Core.List.{List, _++_, append-assoc, append-nil}
+use mathlib.Core.Path.{_≡_, refl, _∙_}
 use Prim.Native.Nat.{ℕ, zero, suc, _+_, _*_, _≤_, _<_}
 use native.Mathlib.Omega.{arith}
 use Rattle.rules.specs.Order.{Side, left, right, Order, equal, toward, is-toward, of-side}
 use Rattle.rules.specs.Live.{Pair}
-use Rattle.rules.specs.Tree.{Entry, Tree, none, node, fork, hang, pair-of, entries, weigh, size}
-use Rattle.rules.specs.Splay.{Gathered, Step, stop, go-on, Splayed, nothing, tick, join, link, beside, assemble, go-by, look, turn, step, walk, splay}
+use Rattle.rules.specs.Tree.{Entry, Tree, none, node, fork, hang, entries, weigh, size}
+use Rattle.rules.specs.Splay.{Gathered, Step, stop, go-on, Splayed, nothing, tick, join, link, rotate-or-link, assemble, go-by, look, turn, step, walk, splay}
 
 module _ {K : Type 0} where
   -- A tree with a node.
@@ -20,7 +20,8 @@ module _ {K : Type 0} where
   fork-real left e near far = tt
   fork-real right e near far = tt
 
-  pub weigh-fork : (f : Entry K → ℕ) (s : Side) (e : Entry K) (near far : Tree K) → weigh f (fork s e near far) ≡ f e + (weigh f near + weigh f far)
+  pub weigh-fork : (f : Entry K → ℕ) (s : Side) (e : Entry K) (near far : Tree K)
+      → weigh f (fork s e near far) ≡ f e + (weigh f near + weigh f far)
   weigh-fork f left e near far = refl
   weigh-fork f right e near far = omega arith
 
@@ -42,15 +43,18 @@ module _ {K : Type 0} where
 
 module _ {K : Type 0} (cmp : K → K → Order) (k : K) where
   pub data Splays : Tree K → Gathered K → Splayed K → Type 0 where
-    equal-stop : (e : Entry K) (l r : Tree K) (g : Gathered K) → cmp k (e .key) ≡ equal → Splays (node e l r) g (assemble (node e l r) (tick g))
+    equal-stop : (e : Entry K) (l r : Tree K) (g : Gathered K) → cmp k (e .key) ≡ equal
+        → Splays (node e l r) g (assemble (node e l r) (tick g))
     no-child : (s : Side) (e : Entry K) (far : Tree K) (g : Gathered K) → cmp k (e .key) ≡ toward s
         → Splays (fork s e none far) g (assemble (fork s e none far) (tick g))
     rotate-stop : (s : Side) (e c : Entry K) (mid far : Tree K) (g : Gathered K) → cmp k (e .key) ≡ toward s → cmp k (c .key) ≡ toward s
         → Splays (fork s e (fork s c none mid) far) g (assemble (fork s c none (fork s e mid far)) (tick (tick g)))
-    rotate-link : (s : Side) (e c : Entry K) (near mid far : Tree K) (g : Gathered K) (z : Splayed K) → cmp k (e .key) ≡ toward s → cmp k (c .key) ≡ toward s
+    rotate-link : (s : Side) (e c : Entry K) (near mid far : Tree K) (g : Gathered K) (z : Splayed K) → cmp k (e .key) ≡ toward s
+        → cmp k (c .key) ≡ toward s
         → Real near → Splays near (join s (fork s c none (fork s e mid far)) (tick (tick g))) z
         → Splays (fork s e (fork s c near mid) far) g z
-    just-link : (s : Side) (e c : Entry K) (l r far : Tree K) (g : Gathered K) (z : Splayed K) → cmp k (e .key) ≡ toward s → is-toward s (cmp k (c .key)) ≡ false
+    just-link : (s : Side) (e c : Entry K) (l r far : Tree K) (g : Gathered K) (z : Splayed K) → cmp k (e .key) ≡ toward s
+        → is-toward s (cmp k (c .key)) ≡ false
         → Splays (node c l r) (join s (fork s e none far) (tick (tick g))) z
         → Splays (fork s e (node c l r) far) g z
 
@@ -78,19 +82,21 @@ module _ {K : Type 0} (cmp : K → K → Order) (k : K) where
     λ z d. rotate-link s e c (node n l r) mid far g z p q tt d,
   )
 
-  besides : (b : Bool) (s : Side) (e c : Entry K) (l r far : Tree K) (g : Gathered K) → cmp k (e .key) ≡ toward s → is-toward s (cmp k (c .key)) ≡ b
-      → Stepped (fork s e (node c l r) far) g (beside b s e c (of-side s l r) (of-side s r l) far (tick (tick g)))
-  besides true left e c l r far g p q = rotated left e c l r far g p (is-toward-true left (cmp k (c .key)) q)
-  besides true right e c l r far g p q = rotated right e c r l far g p (is-toward-true right (cmp k (c .key)) q)
-  besides false left e c l r far g p q = (tt, omega arith, λ z d. just-link left e c l r far g z p q d)
-  besides false right e c l r far g p q = (tt, omega arith, λ z d. just-link right e c l r far g z p q d)
+  rotates-or-links : (b : Bool) (s : Side) (e c : Entry K) (l r far : Tree K) (g : Gathered K) → cmp k (e .key) ≡ toward s
+      → is-toward s (cmp k (c .key)) ≡ b
+      → Stepped (fork s e (node c l r) far) g (rotate-or-link b s e c (of-side s l r) (of-side s r l) far (tick (tick g)))
+  rotates-or-links true left e c l r far g p q = rotated left e c l r far g p (is-toward-true left (cmp k (c .key)) q)
+  rotates-or-links true right e c l r far g p q = rotated right e c r l far g p (is-toward-true right (cmp k (c .key)) q)
+  rotates-or-links false left e c l r far g p q = (tt, omega arith, λ z d. just-link left e c l r far g z p q d)
+  rotates-or-links false right e c l r far g p q = (tt, omega arith, λ z d. just-link right e c l r far g z p q d)
 
   looked : (s : Side) (e : Entry K) (near far : Tree K) (g : Gathered K) → cmp k (e .key) ≡ toward s
       → Stepped (fork s e near far) g (look cmp k s e near far (tick g))
   looked s e none far g p = no-child s e far g p
-  looked s e (node c l r) far g p = besides (is-toward s (cmp k (c .key))) s e c l r far g p refl
+  looked s e (node c l r) far g p = rotates-or-links (is-toward s (cmp k (c .key))) s e c l r far g p refl
 
-  turned : (o : Order) (e : Entry K) (l r : Tree K) (g : Gathered K) → cmp k (e .key) ≡ o → Stepped (node e l r) g (turn cmp k o e l r (tick g))
+  turned : (o : Order) (e : Entry K) (l r : Tree K) (g : Gathered K) → cmp k (e .key) ≡ o
+      → Stepped (node e l r) g (turn cmp k o e l r (tick g))
   turned equal e l r g p = equal-stop e l r g p
   turned (toward left) e l r g p = looked left e l r g p
   turned (toward right) e l r g p = looked right e r l g p
@@ -140,7 +146,7 @@ module _ {K : Type 0} (cmp : K → K → Order) (k : K) where
 
   -- Whatever the rules give keeps the entries in order, and a sum over the nodes.
   abbrev around : Gathered K → List (Pair K) → List (Pair K)
-  around g m = entries (g .lefts) ++ (m ++ entries (g .rights))
+  around g m = entries (g .left-tree) ++ (m ++ entries (g .right-tree))
 
   keeps : {t : Tree K} {g : Gathered K} {z : Splayed K} → Splays t g z → entries (z .tree) ≡ around g (entries t)
   unfolding entries
@@ -149,10 +155,10 @@ module _ {K : Type 0} (cmp : K → K → Order) (k : K) where
   keeps (no-child right e far g p) = simp (entries-hang-left, entries-hang-right, append-assoc)
   keeps (rotate-stop left e c mid far g p q) = simp (entries-hang-left, entries-hang-right, append-assoc)
   keeps (rotate-stop right e c mid far g p q) = simp (entries-hang-left, entries-hang-right, append-assoc)
-  keeps (rotate-link left e c near mid far g z p q x d) = keeps d ∙ simp (entries-hang-left, entries-hang-right, append-assoc)
-  keeps (rotate-link right e c near mid far g z p q x d) = keeps d ∙ simp (entries-hang-left, entries-hang-right, append-assoc)
-  keeps (just-link left e c l r far g z p q d) = keeps d ∙ simp (entries-hang-left, entries-hang-right, append-assoc)
-  keeps (just-link right e c l r far g z p q d) = keeps d ∙ simp (entries-hang-left, entries-hang-right, append-assoc)
+  keeps (rotate-link left e c near mid far g z p q x d) = keeps d ∙ simp (entries-hang-left, append-assoc)
+  keeps (rotate-link right e c near mid far g z p q x d) = keeps d ∙ simp (entries-hang-right, append-assoc)
+  keeps (just-link left e c l r far g z p q d) = keeps d ∙ simp (entries-hang-left, append-assoc)
+  keeps (just-link right e c l r far g z p q d) = keeps d ∙ simp (entries-hang-right, append-assoc)
 
   pub splay-keeps : (t : Tree K) → entries (splay cmp k t .tree) ≡ entries t
   unfolding splay walk entries
@@ -161,15 +167,15 @@ module _ {K : Type 0} (cmp : K → K → Order) (k : K) where
 
   module _ (f : Entry K → ℕ) where
     abbrev weight : Gathered K → ℕ
-    weight g = weigh f (g .lefts) + weigh f (g .rights)
+    weight g = weigh f (g .left-tree) + weigh f (g .right-tree)
 
     weigh-join : (s : Side) (t : Tree K) (g : Gathered K) → weight (join s t g) ≡ weigh f t + weight g
-    weigh-join left t g = omega (arith, weigh-hang f left (g .rights) t)
-    weigh-join right t g = omega (arith, weigh-hang f right (g .lefts) t)
+    weigh-join left t g = omega (arith, weigh-hang f left (g .right-tree) t)
+    weigh-join right t g = omega (arith, weigh-hang f right (g .left-tree) t)
 
     weigh-assemble : (t : Tree K) (g : Gathered K) → Real t → weigh f (assemble t g .tree) ≡ weigh f t + weight g
     weigh-assemble none g h = absurd h
-    weigh-assemble (node e l r) g h = omega (arith, weigh-hang f right (g .lefts) l, weigh-hang f left (g .rights) r)
+    weigh-assemble (node e l r) g h = omega (arith, weigh-hang f right (g .left-tree) l, weigh-hang f left (g .right-tree) r)
 
     weighs : {t : Tree K} {g : Gathered K} {z : Splayed K} → Splays t g z → weigh f (z .tree) ≡ weigh f t + weight g
     weighs (equal-stop e l r g p) = weigh-assemble (node e l r) (tick g) tt
@@ -216,7 +222,25 @@ module _ {K : Type 0} (cmp : K → K → Order) (k : K) where
       by (node x a b) e = tt
 
   -- The last rule, with the child as its own children on the side s and on the other.
-  pub link-fork : (s : Side) (e c : Entry K) (near mid far : Tree K) (g : Gathered K) (z : Splayed K) → cmp k (e .key) ≡ toward s → is-toward s (cmp k (c .key)) ≡ false
+  pub link-fork : (s : Side) (e c : Entry K) (near mid far : Tree K) (g : Gathered K) (z : Splayed K) → cmp k (e .key) ≡ toward s
+      → is-toward s (cmp k (c .key)) ≡ false
       → Splays (fork s c near mid) (join s (fork s e none far) (tick (tick g))) z → Splays (fork s e (fork s c near mid) far) g z
   link-fork left e c near mid far g z p q d = just-link left e c near mid far g z p q d
   link-fork right e c near mid far g z p q d = just-link right e c mid near far g z p q d
+
+  -- No more than two comparisons for each node.
+  few-counts : {t : Tree K} {g : Gathered K} {z : Splayed K} → Splays t g z → z .count ≤ g .count + 2 * size t
+  few-counts (equal-stop e l r g p) = omega arith
+  few-counts (no-child left e far g p) = omega arith
+  few-counts (no-child right e far g p) = omega arith
+  few-counts (rotate-stop left e c mid far g p q) = omega arith
+  few-counts (rotate-stop right e c mid far g p q) = omega arith
+  few-counts (rotate-link left e c near mid far g z p q x d) = omega (arith, few-counts d)
+  few-counts (rotate-link right e c near mid far g z p q x d) = omega (arith, few-counts d)
+  few-counts (just-link left e c l r far g z p q d) = omega (arith, few-counts d)
+  few-counts (just-link right e c l r far g z p q d) = omega (arith, few-counts d)
+
+  pub splay-count : (t : Tree K) → splay cmp k t .count ≤ 2 * size t
+  unfolding splay walk
+  splay-count none = omega arith
+  splay-count (node e l r) = omega (arith, few-counts (splay-obeys (node e l r) tt))

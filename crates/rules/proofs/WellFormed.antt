@@ -34,10 +34,10 @@ module _ {K : Type 0} (ed : Edition K) where
               total-add (st .slots) (λ s. times s (st .tree)) (λ s. listed s (st .free)),
               total-times (st .slots) (st .tree) (a .within),
               total-listed (st .slots) (st .free) (a .chain-within),
-              a .number,
+              a .chain-length,
             ));
         outside = λ s b. omega (arith, a .within s b, a .chain-within s b);
-        number = a .number;
+        number = a .chain-length;
         ascending = a .ascending;
       }
 
@@ -46,7 +46,7 @@ module _ {K : Type 0} (ed : Edition K) where
       → (link-to (st .tree) ≤ st .slots) × (size (st .tree) ≤ st .slots) × (first-link (st .free) ≤ st .slots)
   header-within {w} {st} a = (
     link-within (st .slots) (st .tree) (a .within),
-    omega (arith, a .number),
+    omega (arith, a .chain-length),
     first-within (st .slots) (st .free) (a .chain-within),
   )
 
@@ -62,22 +62,22 @@ module _ {K : Type 0} (ed : Edition K) where
   pub well-formed : {w : List ℕ} {st : State K} → Sound ed st → getD w 0 0 ≡ st .slots → place ed (st .slots) ≤ length w
       → getD w 1 0 ≡ link-to (st .tree) → getD w 2 0 ≡ size (st .tree) → getD w 3 0 ≡ first-link (st .free)
       → Holds (slot-at ed w) (st .tree) → Chained ed (slot-at ed w) (st .free) → WellFormed ed w st
-  well-formed a slots long root live first nodes chain =
+  well-formed a slots long root size-word first-free nodes chain =
       record {
         slots = slots;
         long = long;
         some-slot = a .some-slot;
         in-range = a .in-range;
         root = root;
-        live = live;
-        first = first;
+        size-word = size-word;
+        first-free = first-free;
         nodes = nodes;
         within = λ s b. omega (arith, a .outside s b);
         once = λ s. omega (arith, sound-once a s);
         ascending = a .ascending;
         chain = chain;
         chain-within = λ s b. omega (arith, a .outside s b);
-        number = a .number;
+        chain-length = a .number;
       }
 
   state-same : (st st′ : State K) → st .slots ≡ st′ .slots → st .tree ≡ st′ .tree → st .free ≡ st′ .free → st ≡ st′
@@ -88,7 +88,7 @@ module _ {K : Type 0} (ed : Edition K) where
   the-state {w} {st} {st′} a b =
       state-same st st′ (sym (a .slots) ∙ b .slots)
       (holds-once (slot-at ed w) (st .tree) (st′ .tree) (a .nodes) (b .nodes) (sym (a .root) ∙ b .root))
-      (chain-once ed (slot-at ed w) (st .free) (st′ .free) (a .chain) (b .chain) (sym (a .first) ∙ b .first))
+      (chain-once ed (slot-at ed w) (st .free) (st′ .free) (a .chain) (b .chain) (sym (a .first-free) ∙ b .first-free))
 
   -- So a call that checks its arena gives one thing.
   pub one-outcome : {A : Type 0} {w : List ℕ} {f : State K → A} {x a b : A} → Checked ed w f x a → Checked ed w f x b → a ≡ b
@@ -152,5 +152,5 @@ module _ {K : Type 0} (ed : Edition K) where
     the-words {st} a =
         word-then 0 1 _ _ (omega (arith, a .long)) refl (a .slots)
         (word-then 1 2 _ _ (omega (arith, a .long)) refl (a .root)
-        (word-then 2 3 _ _ (omega (arith, a .long)) refl (a .live)
-        (word-then 3 (place ed 0) _ _ (omega (arith, a .long)) place-zero (a .first) (from-slot a (st .slots) 0 (omega arith)))))
+        (word-then 2 3 _ _ (omega (arith, a .long)) refl (a .size-word)
+        (word-then 3 (place ed 0) _ _ (omega (arith, a .long)) place-zero (a .first-free) (from-slot a (st .slots) 0 (omega arith)))))

@@ -2,12 +2,12 @@
 use mathlib.Core.List.{List, [], _∷_, _++_, append-assoc}
 use mathlib.Core.Logic.{inl, inr}
 use mathlib.Core.Option.{Option, none as nil, some}
-use mathlib.Core.Path.{_≡_, refl, sym, _∙_, ap}
+use mathlib.Core.Path.{_≡_, refl, sym, _∙_, ap, subst}
 use Prim.Native.Nat.{ℕ, zero, suc, _+_, _*_, _≤_, _<_}
 use native.Mathlib.Nat.{mul-zero, mul-suc}
 use native.Mathlib.Omega.{arith}
-use lib.ListN.{length, getD, drop, length-append, length-drop}
-use lib.Seq.{getD-append-add}
+use lib.ListN.{length, getD, take, drop, length-append, length-drop}
+use lib.Seq.{take-at, drop-at, getD-append-add}
 use Rattle.rules.specs.Edition.{Edition}
 use Rattle.rules.specs.Tree.{Tree, none, node, size, times, link-to}
 use Rattle.rules.specs.Perform.{State, counting}
@@ -17,7 +17,7 @@ use Rattle.rules.proofs.Sound.{Sound}
 use Rattle.rules.proofs.Hit.{hit-same, hit-cases}
 use Rattle.rules.proofs.Pigeons.{Same, hit-one}
 use Rattle.rules.proofs.Held.{held-here, held-left, held-right, held-nothing, link-after-here, link-after-later, holds-frame, chained-frame}
-use Rattle.rules.proofs.WellFormed.{sound-once, well-formed, place-zero, place-next}
+use Rattle.rules.proofs.WellFormed.{sound, sound-once, well-formed, place-zero, place-next, the-words}
 
 module _ {K : Type 0} where
   -- Where the tree has nothing, it has no node.
@@ -177,3 +177,29 @@ module _ {K : Type 0} (ed : Edition K) (laws : Lawful ed) where
     where
       same : (s : ℕ) → 1 ≤ times s (st .tree) + listed s (st .free) → slot-at ed (over ed st w) s ≡ slot-of ed st s
       same s b = let k : st .slots ≤ s → ⊥ = (λ k. omega (arith, a .outside s k)) in slot-over st w s (omega arith)
+
+  -- "Words from 4+4N on are never written, and nothing depends on them": whatever stands there, the arena is well formed with the same
+  -- state.
+  pub any-tail : (a b c : List ℕ) {st : State K} → length a ≡ place ed (st .slots)
+      → WellFormed ed (a ++ b) st → WellFormed ed (a ++ c) st
+  any-tail a b c {st} e f =
+      subst (λ (w : List ℕ). WellFormed ed w st) kept (over-formed (sound ed f) (a ++ c) (omega (arith, length-append a c)))
+    where
+      n : ℕ
+      n = place ed (st .slots)
+
+      same : a ≡ words ed st
+      same =
+          sym (take-at a b n e)
+          ∙ ap (take n) (the-words ed laws (a ++ b) f)
+          ∙ take-at (words ed st) (drop n (a ++ b)) n (length-words st)
+
+      kept : over ed st (a ++ c) ≡ a ++ c
+      kept = rw (drop-at a c n e, ← same)
+
+  -- A state's words written over another's, of as many slots, leave nothing of the other's.
+  pub over-over : (st st′ : State K) (w : List ℕ) → st .slots ≡ st′ .slots → over ed st′ (over ed st w) ≡ over ed st′ w
+  over-over st st′ w e =
+      ap (λ (r : List ℕ). words ed st′ ++ r)
+      (drop-at (words ed st) (drop (place ed (st .slots)) w) (place ed (st′ .slots)) (length-words st ∙ ap (place ed) e)
+      ∙ ap (λ (n : ℕ). drop (place ed n) w) e)

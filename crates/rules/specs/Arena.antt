@@ -81,21 +81,28 @@ module _ {K : Type 0} (ed : Edition K) where
       ∷ first-link (st .free)
       ∷ all-words st (counting (st .slots) 0)
 
-  -- "Slot s (from 0) is words 4+4s to 7+4s", where a slot takes three words more than a key.
+  -- "Slot s (from 0) is words 4+4s to 7+4s": 4 words of header, and a slot takes three words more than a key.
   abbrev pub slot-size : ℕ
   slot-size = 3 + ed .width
 
+  abbrev pub place-from : ℕ → ℕ → ℕ
+  place-from header s = header + slot-size * s
+
   abbrev pub place : ℕ → ℕ
-  place s = 4 + slot-size * s
+  place s = place-from 4 s
+
+  -- What stands in the slot whose words begin at a place, and in the slot s.
+  abbrev pub slot-from : List ℕ → ℕ → Slot K
+  slot-from w i =
+      record {
+        key = ed .key-at w i;
+        value = getD w (i + ed .width) 0;
+        left = getD w (i + (1 + ed .width)) 0;
+        right = getD w (i + (2 + ed .width)) 0;
+      }
 
   abbrev pub slot-at : List ℕ → ℕ → Slot K
-  slot-at w s =
-      record {
-        key = ed .key-at w (place s);
-        value = getD w (place s + ed .width) 0;
-        left = getD w (place s + (1 + ed .width)) 0;
-        right = getD w (place s + (2 + ed .width)) 0;
-      }
+  slot-at w s = slot-from w (place s)
 
   -- "Words from 4+4N on are never written."
   abbrev pub over : State K → List ℕ → List ℕ
@@ -103,22 +110,25 @@ module _ {K : Type 0} (ed : Edition K) where
 
   -- The words w are a well-formed arena, and st is what it holds. "An arena is well formed when ..
   pub record WellFormed (w : List ℕ) (st : State K) : Type 0 where
-    -- .. its length is at least 4 and at least 4+4N, N in range;
+    -- .. its length is at least 4 and at least 4+4N, N in range; (4+4N is never below 4)
     pub slots : getD w 0 0 ≡ st .slots
     pub long : place (st .slots) ≤ length w
     pub some-slot : 1 ≤ st .slots
     pub in-range : st .slots ≤ most-slots
-    -- size, root and first free link at most N;
+    -- size, root and first free link at most N; (they are the tree's and the chain's, so that they are at most N follows: `header-within`
+    -- in proofs/WellFormed.antt; and as word 2 is the tree's size, "the nodes number exactly the size")
     pub root : getD w 1 0 ≡ link-to (st .tree)
-    pub live : getD w 2 0 ≡ size (st .tree)
-    pub first : getD w 3 0 ≡ first-link (st .free)
-    -- from the root all links are at most N, no slot is met twice,
+    pub size-word : getD w 2 0 ≡ size (st .tree)
+    pub first-free : getD w 3 0 ≡ first-link (st .free)
+    -- from the root all links are at most N, (the nodes' slots hold the tree, and it has none from N on)
     pub nodes : Holds (slot-at w) (st .tree)
     pub within : (s : ℕ) → st .slots ≤ s → times s (st .tree) ≡ 0
+    -- no slot is met twice,
     pub once : (s : ℕ) → times s (st .tree) ≤ 1
-    -- the nodes number exactly the size, and keys strictly ascend from left to right;
+    -- and keys strictly ascend from left to right;
     pub ascending : Ascending ed (entries (st .tree))
-    -- the free chain's links are at most N and it ends with 0 after exactly N minus size slots, each as above."
+    -- the free chain's links are at most N (each of its slots is free, "as above", and none is from N on)
     pub chain : Chained (slot-at w) (st .free)
     pub chain-within : (s : ℕ) → st .slots ≤ s → listed s (st .free) ≡ 0
-    pub number : size (st .tree) + length (st .free) ≡ st .slots
+    -- and it ends with 0 after exactly N minus size slots."
+    pub chain-length : size (st .tree) + length (st .free) ≡ st .slots

@@ -7,7 +7,7 @@ use lib.Dec.{eqb, leb}
 use lib.ListN.{length, drop}
 use Rattle.rules.specs.Order.{choose}
 use Rattle.rules.specs.Edition.{Edition, most-slots}
-use Rattle.rules.specs.Command.{Command, Code, SIZE, SHORT, DAMAGED, RAGGED, NO-ROOM, number, accepted, Answer, bare, answer-words, command-size, answer-size, command-at}
+use Rattle.rules.specs.Command.{Command, command, Code, SIZE, SHORT, DAMAGED, RAGGED, NO-ROOM, code-number, accepted, Answer, bare, answer-words, command-size, answer-size, command-at}
 use Rattle.rules.specs.Perform.{State, Outcome, new, gives, perform}
 use Rattle.rules.specs.Arena.{WellFormed, place, over}
 use Rattle.rules.specs.Reading.{Reading, read-as, answer-as}
@@ -36,13 +36,13 @@ pub record Performed (K : Type 0) : Type 0 where
 module _ {K : Type 0} (ed : Edition K) where
   -- Making refuses "10 SIZE: N 0 or above 4,095" and "11 SHORT: fewer than 4+4N words", in this order.
   unfoldable pub make : ℕ → List ℕ → Made
-  make zero w = record { returned = number SIZE; arena = w }
+  make zero w = record { returned = code-number SIZE; arena = w }
   make (suc m) w =
       choose (leb (suc m) most-slots)
       (choose (leb (place ed (suc m)) (length w))
       (record { returned = accepted; arena = over ed (new (suc m)) w })
-      (record { returned = number SHORT; arena = w }))
-      (record { returned = number SIZE; arena = w })
+      (record { returned = code-number SHORT; arena = w }))
+      (record { returned = code-number SIZE; arena = w })
 
   -- "12 DAMAGED: the arena is not well formed" comes before everything else: a call gives what `f` says of the state that the arena
   -- holds, or else what it gives where it refuses.
@@ -62,9 +62,9 @@ module _ {K : Type 0} (ed : Edition K) where
   abbrev pub one-refused : List ℕ → Replied
   one-refused w = record { answer = answer-words ed (bare ed DAMAGED 0); arena = w }
 
-  -- A call for one command on the arena w gives `given`.
-  abbrev pub One : Reading → Command K → List ℕ → Replied → Type 0
-  One r c w given = Checked w (one-on r c w) (one-refused w) given
+  -- A call for one command, "number, key, value", on the arena w gives `given`.
+  abbrev pub One : Reading → ℕ → K → ℕ → List ℕ → Replied → Type 0
+  One r n k v w given = Checked w (one-on r (command n k v) w) (one-refused w) given
 
   -- So many commands, read off a list of words one after the other.
   unfoldable pub commands : ℕ → List ℕ → List (Command K)
@@ -73,6 +73,9 @@ module _ {K : Type 0} (ed : Edition K) where
 
   abbrev pub how-many : List ℕ → ℕ
   how-many w = length w / command-size ed
+
+  abbrev pub commands-of : List ℕ → List (Command K)
+  commands-of w = commands (how-many w) w
 
   -- "13 RAGGED: command words not a multiple of 3", then "14 NO ROOM: fewer than 4 answer words per command".
   unfoldable pub refusal : List ℕ → ℕ → Option Code
@@ -95,9 +98,9 @@ module _ {K : Type 0} (ed : Edition K) where
 
   -- "Writes each answer after the one before; answer words beyond stay."
   abbrev pub run-by : Option Code → Reading → List ℕ → List ℕ → List ℕ → State K → Ran
-  run-by (some c) r cs w buffer st = record { returned = number c; arena = w; answers = buffer }
+  run-by (some c) r cs w buffer st = record { returned = code-number c; arena = w; answers = buffer }
   run-by nil r cs w buffer st =
-      let p = perform-all r (commands (how-many cs) cs) st in
+      let p = perform-all r (commands-of cs) st in
       record {
         returned = accepted;
         arena = over ed (p .state) w;
@@ -108,7 +111,7 @@ module _ {K : Type 0} (ed : Edition K) where
   run-on r cs w buffer st = run-by (refusal cs (length buffer)) r cs w buffer st
 
   abbrev pub run-refused : List ℕ → List ℕ → Ran
-  run-refused w buffer = record { returned = number DAMAGED; arena = w; answers = buffer }
+  run-refused w buffer = record { returned = code-number DAMAGED; arena = w; answers = buffer }
 
   -- A run of the command words cs on the arena w, with an answer buffer, gives `given`.
   abbrev pub Run : Reading → List ℕ → List ℕ → List ℕ → Ran → Type 0

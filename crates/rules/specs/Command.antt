@@ -10,7 +10,8 @@ pub data Command (K : Type 0) : Type 0 where
   min max take-first take-last clear len unknown : Command K
 
 module _ {K : Type 0} where
-  -- The table "No., Command". "Unused words are ignored." A number that is not in the table is no command.
+  -- The table "No., Command". "Unused words are ignored." 0 and every number above 12 are unknown. The crate's `contains` and `find_key`
+  -- are get, and its `is_empty` is length 0.
   abbrev pub command : ℕ → K → ℕ → Command K
   command n k v =
       getD
@@ -31,30 +32,36 @@ module _ {K : Type 0} where
       n
       unknown
 
--- The codes of answers, and those with which whole calls refuse.
+-- The codes: 0 to 7 of answers, 10 to 14 with which whole calls refuse, and 15 the line program's.
 pub data Code : Type 0 where
   FOUND ABSENT NEW REPLACED REMOVED FULL COUNT UNKNOWN : Code
   SIZE SHORT DAMAGED RAGGED NO-ROOM BAD-LINE : Code
 
-abbrev pub number : Code → ℕ
-number FOUND = 0
-number ABSENT = 1
-number NEW = 2
-number REPLACED = 3
-number REMOVED = 4
-number FULL = 5
-number COUNT = 6
-number UNKNOWN = 7
-number SIZE = 10
-number SHORT = 11
-number DAMAGED = 12
-number RAGGED = 13
-number NO-ROOM = 14
-number BAD-LINE = 15
+abbrev pub code-number : Code → ℕ
+code-number FOUND = 0
+code-number ABSENT = 1
+code-number NEW = 2
+code-number REPLACED = 3
+code-number REMOVED = 4
+code-number FULL = 5
+code-number COUNT = 6
+code-number UNKNOWN = 7
+code-number SIZE = 10
+code-number SHORT = 11
+code-number DAMAGED = 12
+code-number RAGGED = 13
+code-number NO-ROOM = 14
+code-number BAD-LINE = 15
 
 -- "An accepted making or run returns 0."
 abbrev pub accepted : ℕ
 accepted = 0
+
+-- What an answer says besides its comparisons.
+pub record Reply (K : Type 0) : Type 0 where
+  pub code : Code
+  pub key : K
+  pub value : ℕ
 
 -- "An answer is four words: code, key, value, comparisons."
 pub record Answer (K : Type 0) : Type 0 where
@@ -62,6 +69,9 @@ pub record Answer (K : Type 0) : Type 0 where
   pub key : K
   pub value : ℕ
   pub count : ℕ
+
+abbrev pub said : {K : Type 0} → Answer K → Reply K
+said a = record { code = a .code; key = a .key; value = a .value }
 
 module _ {K : Type 0} (ed : Edition K) where
   -- An answer with a key and a value, and one with zeros for them.
@@ -72,7 +82,7 @@ module _ {K : Type 0} (ed : Edition K) where
   bare c n = telling c (ed .zero-key) 0 n
 
   abbrev pub answer-words : Answer K → List ℕ
-  answer-words a = number (a .code) ∷ (ed .spell (a .key) ++ (a .value ∷ a .count ∷ []))
+  answer-words a = code-number (a .code) ∷ (ed .spell (a .key) ++ (a .value ∷ a .count ∷ []))
 
   -- The words of a command and of an answer.
   abbrev pub command-size : ℕ

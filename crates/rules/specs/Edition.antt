@@ -13,7 +13,7 @@ pub record Edition (K : Type 0) : Type 0 where
   pub spell : K → List ℕ
   pub key-at : List ℕ → ℕ → K
 
--- "All words are unsigned, 32 bits. M is 4294967295."
+-- "All words are unsigned, 32 bits. M is 4294967295." Here a word is any number; that it is below 2^32 comes from `u32` in the contracts.
 abbrev pub M : ℕ
 M = 4294967295
 

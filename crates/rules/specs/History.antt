@@ -2,12 +2,11 @@
 use mathlib.Core.List.{List, [], _∷_}
 use mathlib.Core.Option.{Option, none as nil, some}
 use Prim.Native.Nat.{ℕ}
-use lib.ListN.{length}
 use Rattle.rules.specs.Edition.{Edition}
-use Rattle.rules.specs.Command.{Command, Code}
-use Rattle.rules.specs.Live.{Pair, Reply, after, reply}
-use Rattle.rules.specs.Reading.{Reading, read-as, value-as}
-use Rattle.rules.specs.Calls.{commands, how-many, refusal}
+use Rattle.rules.specs.Command.{Command, Code, Reply}
+use Rattle.rules.specs.Live.{Pair, after, reply}
+use Rattle.rules.specs.Reading.{Reading, read-as, reply-as}
+use Rattle.rules.specs.Calls.{commands-of, refusal}
 
 -- A call: one command, or a run of command words with so many answer words lent. "A set's command counts as the set reads it."
 pub data Call (K : Type 0) : Type 0 where
@@ -20,18 +19,13 @@ module _ {K : Type 0} (ed : Edition K) where
   after-all n r [] l = l
   after-all n r (c ∷ cs) l = after-all n r cs (after ed n (read-as r c) l)
 
-  abbrev pub reply-as : ℕ → Reading → Command K → List (Pair K) → Reply K
-  reply-as n r c l =
-      let p = reply ed n (read-as r c) l in
-      record { code = p .code; key = p .key; value = value-as r (p .code) (p .value) }
-
   unfoldable pub replies-all : ℕ → Reading → List (Command K) → List (Pair K) → List (Reply K)
   replies-all n r [] l = []
-  replies-all n r (c ∷ cs) l = reply-as n r c l ∷ replies-all n r cs (after ed n (read-as r c) l)
+  replies-all n r (c ∷ cs) l = reply-as r (reply ed n (read-as r c) l) ∷ replies-all n r cs (after ed n (read-as r c) l)
 
   -- A refused run does no command.
   abbrev pub done-by : Option Code → List ℕ → List (Command K)
-  done-by nil w = commands ed (how-many ed w) w
+  done-by nil w = commands-of ed w
   done-by (some c) w = []
 
   -- The entries after a call.
@@ -39,7 +33,8 @@ module _ {K : Type 0} (ed : Edition K) where
   after-call n (one r c) l = after-all n r (c ∷ []) l
   after-call n (run r w room) l = after-all n r (done-by (refusal ed w room) w) l
 
-  -- "From N and the list of commands alone, without a tree, one can say which keys are live with which value."
+  -- Which keys are live with which value after calls in order on an arena of n slots, from those that were live before: none for a new
+  -- arena.
   unfoldable pub live : ℕ → List (Call K) → List (Pair K) → List (Pair K)
   live n [] l = l
   live n (c ∷ cs) l = live n cs (after-call n c l)

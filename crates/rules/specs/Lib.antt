@@ -1,4 +1,12 @@
--- Document 01, bottom up.
+-- Document 01 in definitions, bottom up. `abbrev` and `unfoldable` say only how far the prover looks into a definition; they change no
+-- meaning. `nil` is "no entry", `none` is the empty tree. To read along with document 01, take the files in this order:
+--   "The arena's words": Edition (keys, M, the limits), Tree, Perform up to `freeing` (the state, making, slots taken and freed), Arena;
+--   "The splay, step by step": Order (sides, comparing), Splay;
+--   "Commands": Command (the tables, words of commands and answers), Perform, Reading (the set), Calls (whole calls and what they refuse);
+--   "The line program": Lines;
+--   "Twelve arenas to prove": Twelve;
+--   "What each call owes its reader": Live (the live entries, with no tree), History (the same over calls).
+-- What is proved of them stands in proofs/, and worked cases in proofs/Cases.antt.
 pub mod Order
 pub mod Edition
 pub mod Command

@@ -1,12 +1,12 @@
 -- "The line program": the bytes that it writes for the bytes that it reads.
-use mathlib.Core.Bool.{Bool, true, false, _&&_}
+use mathlib.Core.Bool.{_&&_}
 use mathlib.Core.List.{List, [], _∷_, _++_}
 use mathlib.Core.Option.{Option, none as nil, some}
 use Prim.Native.Nat.{ℕ, zero, suc, _+_, _-_, _*_, _/_, _%_}
 use lib.Dec.{eqb, leb, ltb}
 use lib.ListN.{length, take, drop}
 use Rattle.rules.specs.Order.{choose}
-use Rattle.rules.specs.Edition.{Edition}
+use Rattle.rules.specs.Edition.{Edition, tags}
 use Rattle.rules.specs.Command.{Command, BAD-LINE, Answer, bare, answer-words, command-size, command-at}
 use Rattle.rules.specs.Perform.{State, Outcome, new, gives, perform}
 
@@ -97,3 +97,7 @@ module _ {K : Type 0} (ed : Edition K) where
 -- "The program's arena has 1,024 slots."
 abbrev pub program-slots : ℕ
 program-slots = 1024
+
+-- What the line program writes for its input.
+abbrev pub program : List ℕ → List ℕ
+program input = output tags program-slots input

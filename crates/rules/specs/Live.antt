@@ -7,46 +7,39 @@ use mathlib.Core.Path.{_≡_}
 use Prim.Native.Nat.{ℕ}
 use lib.Dec.{eqb}
 use lib.ListN.{length}
-use Rattle.rules.specs.Order.{left, right, Order, equal, toward, is-toward, choose}
+use Rattle.rules.specs.Order.{left, right, toward, is-toward, by-order, choose}
 use Rattle.rules.specs.Edition.{Edition}
-use Rattle.rules.specs.Command.{Command, get, next, prev, remove, write, insert, min, max, take-first, take-last, clear, len, unknown, Code, FOUND, ABSENT, NEW, REPLACED, REMOVED, FULL, COUNT, UNKNOWN}
+use Rattle.rules.specs.Command.{Command, get, next, prev, remove, write, insert, min, max, take-first, take-last, clear, len, unknown, Code, FOUND, ABSENT, NEW, REPLACED, REMOVED, FULL, COUNT, UNKNOWN, Reply}
 
 -- A live entry.
 pub record Pair (K : Type 0) : Type 0 where
   pub key : K
   pub value : ℕ
 
--- What an answer says besides its comparisons.
-pub record Reply (K : Type 0) : Type 0 where
-  pub code : Code
-  pub key : K
-  pub value : ℕ
+-- What an insert comes to: it replaces the key's pair, it finds N pairs there, or it adds a pair.
+pub data Storing (K : Type 0) : Type 0 where
+  replaces : Pair K → Storing K
+  is-full adds : Storing K
 
 -- The first of two where there is one, otherwise the second.
 abbrev pub or-else {ℓ} : {A : Type ℓ} → Option A → Option A → Option A
 or-else nil b = b
 or-else (some a) b = some a
 
--- One of three things, by how a key compares.
-abbrev pub by-order {ℓ} : {A : Type ℓ} → Order → A → A → A → A
-by-order equal same less greater = same
-by-order (toward left) same less greater = less
-by-order (toward right) same less greater = greater
-
-module _ {K : Type 0} where
-  abbrev pub first : List (Pair K) → Option (Pair K)
+module _ {A : Type 0} where
+  abbrev pub first : List A → Option A
   first [] = nil
   first (x ∷ l) = some x
 
-  unfoldable pub last : List (Pair K) → Option (Pair K)
+  unfoldable pub last : List A → Option A
   last [] = nil
   last (x ∷ l) = or-else (last l) (some x)
 
-  abbrev pub but-first : List (Pair K) → List (Pair K)
+  abbrev pub but-first : List A → List A
   but-first [] = []
   but-first (x ∷ l) = l
 
-  unfoldable pub but-last : List (Pair K) → List (Pair K)
+  unfoldable pub but-last : List A → List A
   but-last [] = []
   but-last (x ∷ []) = []
   but-last (x ∷ (y ∷ l)) = x ∷ but-last (y ∷ l)
@@ -93,14 +86,27 @@ module _ {K : Type 0} (ed : Edition K) where
   if-there nil there not-there = not-there
   if-there (some p) there not-there = there
 
-  -- "5 adds the key's pair or replaces its value, but an absent key changes nothing when N pairs are there; 2 replaces a present key's
-  -- value; 6 drops the key's pair, 9 the first, 10 the last, 11 all; the others change nothing."
+  -- "5 adds the key's pair or replaces its value, but an absent key changes nothing when N pairs are there; ..
+  abbrev pub storing-by : Option (Pair K) → Bool → Storing K
+  storing-by (some p) is-N = replaces p
+  storing-by nil true = is-full
+  storing-by nil false = adds
+
+  abbrev pub storing : ℕ → K → List (Pair K) → Storing K
+  storing n k l = storing-by (find k l) (eqb (length l) n)
+
+  abbrev pub stored : Storing K → Pair K → List (Pair K) → List (Pair K)
+  stored (replaces q) p l = put p l
+  stored is-full p l = l
+  stored adds p l = put p l
+
+  -- .. 2 replaces a present key's value; 6 drops the key's pair, 9 the first, 10 the last, 11 all; the others change nothing."
   unfoldable pub after : ℕ → Command K → List (Pair K) → List (Pair K)
   after n (get k) l = l
   after n (write k v) l = if-there (find k l) (put (pair k v) l) l
   after n (next k) l = l
   after n (prev k) l = l
-  after n (insert k v) l = if-there (find k l) (put (pair k v) l) (choose (eqb (length l) n) l (put (pair k v) l))
+  after n (insert k v) l = stored (storing n k l) (pair k v) l
   after n (remove k) l = without k l
   after n min l = l
   after n max l = l
@@ -121,10 +127,11 @@ module _ {K : Type 0} (ed : Edition K) where
   with-entry c nil = says ABSENT
   with-entry c (some p) = replies c (p .key) (p .value)
 
-  abbrev pub stored : Option (Pair K) → Bool → K → Reply K
-  stored (some p) is-full k = replies REPLACED (p .key) (p .value)
-  stored nil true k = says FULL
-  stored nil false k = replies NEW k 0
+  -- The codes of 5: NEW, REPLACED with the old value, or FULL.
+  abbrev pub stored-reply : Storing K → K → Reply K
+  stored-reply (replaces p) k = replies REPLACED (p .key) (p .value)
+  stored-reply is-full k = says FULL
+  stored-reply adds k = replies NEW k 0
 
   -- "The entry of 1 is the key's pair, of 3 the first above the key, of 4 the last below it, of 7 and 9 the first, of 8 and 10 the last."
   unfoldable pub reply : ℕ → Command K → List (Pair K) → Reply K
@@ -132,7 +139,7 @@ module _ {K : Type 0} (ed : Edition K) where
   reply n (write k v) l = with-entry REPLACED (find k l)
   reply n (next k) l = with-entry FOUND (above k l)
   reply n (prev k) l = with-entry FOUND (below k l)
-  reply n (insert k v) l = stored (find k l) (eqb (length l) n) k
+  reply n (insert k v) l = stored-reply (storing n k l) k
   reply n (remove k) l = with-entry REMOVED (find k l)
   reply n min l = with-entry FOUND (first l)
   reply n max l = with-entry FOUND (last l)

@@ -29,6 +29,12 @@ abbrev pub of-side {ℓ} : {A : Type ℓ} → Side → A → A → A
 of-side left a b = a
 of-side right a b = b
 
+-- One of three things, by how a key compares.
+abbrev pub by-order {ℓ} : {A : Type ℓ} → Order → A → A → A → A
+by-order equal same less greater = same
+by-order (toward left) same less greater = less
+by-order (toward right) same less greater = greater
+
 -- The first of two things where a test holds, otherwise the second.
 abbrev pub choose {ℓ} : {A : Type ℓ} → Bool → A → A → A
 choose true a b = a

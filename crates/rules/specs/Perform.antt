@@ -9,7 +9,7 @@ use Rattle.rules.specs.Splay.{splay}
 use Rattle.rules.specs.Edition.{Edition}
 use Rattle.rules.specs.Command.{Command, get, next, prev, remove, write, insert, min, max, take-first, take-last, clear, len, unknown, FOUND, ABSENT, NEW, REPLACED, REMOVED, FULL, COUNT, UNKNOWN, Answer, telling, bare}
 
--- What an arena holds: N, the tree, and the slots of the free chain from its first on.
+-- What an arena holds: N, which is also how many entries there is room for; the tree; and the slots of the free chain from its first on.
 pub record State (K : Type 0) : Type 0 where
   pub slots : ℕ
   pub tree : Tree K
@@ -64,7 +64,8 @@ module _ {K : Type 0} where
   abbrev pub new-root : Side → Entry K → Entry K → Tree K → Tree K → Tree K
   new-root s x e l r = fork s x (of-side s l r) (fork s e none (of-side s r l))
 
-  -- "Hang the right subtree on it; no left: the right becomes the tree."
+  -- "Hang the right subtree on it; no left: the right becomes the tree." The root's right child x is empty here, since the key was right of
+  -- all of the left subtree (law `hung` in proofs/Brought.antt); the Rust overwrites it too.
   abbrev pub hung-on : Tree K → Tree K → Tree K
   hung-on none r = r
   hung-on (node e l x) r = node e l r
@@ -121,8 +122,9 @@ module _ {K : Type 0} (ed : Edition K) where
   entry-or nil n = bare ed ABSENT n
   entry-or (some e) n = telling ed FOUND (e .key) (e .value) n
 
-  -- 3, 4 next, prev: "walk from the root until no child is left, one count per node met". An entry of which the key lies on the side
-  -- d is the best so far, and nearer ones are looked for on that side of it; "an equal key goes right for next, left for prev".
+  -- 3, 4 next, prev: "walk from the root until no child is left, one count per node met". d is the side on which the sought key lies of
+  -- its neighbour: left for next, right for prev. Where the key lies on the side d of a node, the node is the best so far, and the walk
+  -- goes to its child on the side d; otherwise it goes to the other child: "an equal key goes right for next, left for prev".
   unfoldable pub seek : Side → K → Tree K → Option (Entry K) → ℕ → Answer K
   seek d k none best n = entry-or best n
   seek d k (node e l r) best n =

@@ -2,7 +2,7 @@
 use Prim.Native.Nat.{ℕ}
 use lib.Dec.{eqb}
 use Rattle.rules.specs.Order.{choose}
-use Rattle.rules.specs.Command.{Command, get, next, prev, remove, write, insert, min, max, take-first, take-last, clear, len, unknown, Code, COUNT, number, Answer}
+use Rattle.rules.specs.Command.{Command, get, next, prev, remove, write, insert, min, max, take-first, take-last, clear, len, unknown, Code, COUNT, code-number, Reply, Answer, said}
 
 pub data Reading : Type 0 where
   as-map as-set : Reading
@@ -10,7 +10,7 @@ pub data Reading : Type 0 where
 -- The set "gives 0 for every entry's value, old values too; COUNT and refusals are as the map's", where every refusal has value 0.
 abbrev pub value-as : Reading → Code → ℕ → ℕ
 value-as as-map c v = v
-value-as as-set c v = choose (eqb (number c) (number COUNT)) v 0
+value-as as-set c v = choose (eqb (code-number c) (code-number COUNT)) v 0
 
 module _ {K : Type 0} where
   -- The set "takes the same commands but 2, which is UNKNOWN there"; "its inserts store value 0".
@@ -33,5 +33,10 @@ module _ {K : Type 0} where
   read-as as-map c = c
   read-as as-set c = set-command c
 
+  abbrev pub reply-as : Reading → Reply K → Reply K
+  reply-as r p = record { code = p .code; key = p .key; value = value-as r (p .code) (p .value) }
+
+  -- The comparisons are the map's.
   abbrev pub answer-as : Reading → Answer K → Answer K
-  answer-as r a = record { code = a .code; key = a .key; value = value-as r (a .code) (a .value); count = a .count }
+  answer-as r a =
+      let p = reply-as r (said a) in record { code = p .code; key = p .key; value = p .value; count = a .count }

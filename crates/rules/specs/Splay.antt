@@ -1,13 +1,14 @@
 -- "The splay, step by step": simplified top-down splaying as a function on trees, with its comparisons counted.
 use mathlib.Core.Bool.{Bool, true, false}
+use mathlib.Core.List.{List, [], _∷_}
 use Prim.Native.Nat.{ℕ, zero, suc}
-use Rattle.rules.specs.Order.{Side, left, right, Order, equal, toward, is-toward, of-side}
+use Rattle.rules.specs.Order.{Side, left, right, Order, equal, toward, is-toward, of-side, by-order}
 use Rattle.rules.specs.Tree.{Entry, Tree, none, node, fork, hang, size}
 
 -- The left tree and the right tree gathered so far, and the comparisons made.
 pub record Gathered (K : Type 0) : Type 0 where
-  pub lefts : Tree K
-  pub rights : Tree K
+  pub left-tree : Tree K
+  pub right-tree : Tree K
   pub count : ℕ
 
 -- What a step ends in: the walk stops at a node, or goes on at the node below. Each is given as the tree whose root it is.
@@ -21,16 +22,16 @@ pub record Splayed (K : Type 0) : Type 0 where
 module _ {K : Type 0} where
   -- "an empty left tree and right tree"
   abbrev pub nothing : Gathered K
-  nothing = record { lefts = none; rights = none; count = 0 }
+  nothing = record { left-tree = none; right-tree = none; count = 0 }
 
   -- "Each comparison counts one."
   abbrev pub tick : Gathered K → Gathered K
-  tick g = record { lefts = g .lefts; rights = g .rights; count = suc (g .count) }
+  tick g = record { left-tree = g .left-tree; right-tree = g .right-tree; count = suc (g .count) }
 
   -- A tree joins the right tree at its smallest end where the walk goes left, and the left tree at its largest end where it goes right.
   abbrev pub join : Side → Tree K → Gathered K → Gathered K
-  join left t g = record { lefts = g .lefts; rights = hang left (g .rights) t; count = g .count }
-  join right t g = record { lefts = hang right (g .lefts) t; rights = g .rights; count = g .count }
+  join left t g = record { left-tree = g .left-tree; right-tree = hang left (g .right-tree) t; count = g .count }
+  join right t g = record { left-tree = hang right (g .left-tree) t; right-tree = g .right-tree; count = g .count }
 
   -- "If it then has no left child, stop. Then link: the node joins the right tree at its smallest end, and its left child becomes the
   -- node." The node is e; `near` is its child on the side s of the key, `far` the other.
@@ -39,16 +40,16 @@ module _ {K : Type 0} where
   link s e (node c l r) far g = go-on (node c l r) (join s (fork s e none far) g)
 
   -- "If less again, rotate right, so the child is now the node." The child is c; `near` is its own child on the side s, `mid` the other.
-  abbrev pub beside : Bool → Side → Entry K → Entry K → Tree K → Tree K → Tree K → Gathered K → Step K
-  beside true s e c near mid far g = link s c near (fork s e mid far) g
-  beside false s e c near mid far g = link s e (fork s c near mid) far g
+  abbrev pub rotate-or-link : Bool → Side → Entry K → Entry K → Tree K → Tree K → Tree K → Gathered K → Step K
+  rotate-or-link true s e c near mid far g = link s c near (fork s e mid far) g
+  rotate-or-link false s e c near mid far g = link s e (fork s c near mid) far g
 
   -- "At the stop the node's left subtree goes to the right end of the left tree, its right subtree to the left end of the right tree,
   -- and the two trees become the node's children."
   abbrev pub assemble : Tree K → Gathered K → Splayed K
   assemble none g = record { tree = none; count = g .count }
   assemble (node e l r) g =
-      record { tree = node e (hang right (g .lefts) l) (hang left (g .rights) r); count = g .count }
+      record { tree = node e (hang right (g .left-tree) l) (hang left (g .right-tree) r); count = g .count }
 
   -- After a step: the trees are assembled at the stop, or the walk goes on.
   abbrev pub go-by : (Tree K → Gathered K → Splayed K) → Step K → Splayed K
@@ -60,7 +61,7 @@ module _ {K : Type 0} where
     abbrev pub look : Side → Entry K → Tree K → Tree K → Gathered K → Step K
     look s e none far g = stop (fork s e none far) g
     look s e (node c l r) far g =
-        beside (is-toward s (cmp k (c .key))) s e c (of-side s l r) (of-side s r l) far (tick g)
+        rotate-or-link (is-toward s (cmp k (c .key))) s e c (of-side s l r) (of-side s r l) far (tick g)
 
     -- "Equal: stop. Less: .. Greater: the mirror image."
     abbrev pub turn : Order → Entry K → Tree K → Tree K → Gathered K → Step K
@@ -68,7 +69,7 @@ module _ {K : Type 0} where
     turn (toward left) e l r g = look left e l r g
     turn (toward right) e l r g = look right e r l g
 
-    -- "Compare the key with the node." An empty tree has no node: nothing is compared, and what was gathered is lost.
+    -- "Compare the key with the node." An empty tree has no node; the walk never comes to one.
     abbrev pub step : Tree K → Gathered K → Step K
     step none g = stop none g
     step (node e l r) g = turn (cmp k (e .key)) e l r (tick g)
@@ -78,6 +79,13 @@ module _ {K : Type 0} where
     walk zero t g = assemble t g
     walk (suc n) t g = go-by (walk n) (step t g)
 
-    -- "Start at the root with an empty left tree and right tree." Each step goes on at a smaller tree, so a step for each node is enough.
+    -- "Start at the root with an empty left tree and right tree." Each step goes on at a smaller tree, so a step for each node is enough:
+    -- in proofs/Splay.antt the function obeys document 01's rules one by one (`splay-obeys`), and nothing else does (`splay-only`).
     unfoldable pub splay : Tree K → Splayed K
     splay t = walk (size t) t nothing
+
+    -- The nodes that a plain search for the key meets, from the root down. The splay "leaves at the root the last node of the plain
+    -- search path" (proofs/Path.antt).
+    unfoldable pub path : Tree K → List (Entry K)
+    path none = []
+    path (node e l r) = e ∷ by-order (cmp k (e .key)) [] (path l) (path r)

@@ -1,16 +1,15 @@
 -- "Twelve arenas to prove": the table of document 01, and one row more. The theorem is in proofs/Twelve.antt.
 use mathlib.Core.List.{List, [], _∷_, _++_}
 use Prim.Native.Nat.{ℕ}
-use Rattle.rules.specs.Order.{Side}
 use Rattle.rules.specs.Edition.{M, tags}
-use Rattle.rules.specs.Command.{Command, get, next, prev, remove, insert, take-last, answer-words}
+use Rattle.rules.specs.Command.{command-at, answer-words}
 use Rattle.rules.specs.Perform.{State, new, perform}
 use Rattle.rules.specs.Arena.{words}
 
--- A command that leads to a row, or a row: the command, its answer, and every word of the arena after it.
+-- A command that leads to a row, or a row: the command's three words, its answer, and every word of the arena after it.
 pub data Row : Type 0 where
-  before : Command ℕ → Row
-  row : Command ℕ → List ℕ → List ℕ → Row
+  before : List ℕ → Row
+  row : List ℕ → List ℕ → List ℕ → Row
 
 -- Rows that follow each other from the making of N slots, with the words of the new arena.
 pub data Story : Type 0 where
@@ -32,14 +31,18 @@ all-told (story n w rows ∷ more) = (w, told rows) ∷ all-told more
 -- What the rules give.
 unfoldable pub given : List Row → State ℕ → Told
 given [] st = []
-given (before c ∷ rows) st = given rows (perform tags c st .state)
+given (before c ∷ rows) st = given rows (perform tags (command-at tags c) st .state)
 given (row c a w ∷ rows) st =
-    let o = perform tags c st in
+    let o = perform tags (command-at tags c) st in
     (answer-words tags (o .answer), words tags (o .state)) ∷ given rows (o .state)
 
 unfoldable pub all-given : List Story → List (List ℕ × Told)
 all-given [] = []
 all-given (story n w rows ∷ more) = (words tags (new n), given rows (new n)) ∷ all-given more
+
+-- "A command is three words": number, key, value. An answer, a header and a slot are four.
+abbrev pub three : ℕ → ℕ → ℕ → List ℕ
+three a b c = a ∷ b ∷ c ∷ []
 
 abbrev pub quad : ℕ → ℕ → ℕ → ℕ → List ℕ
 quad a b c d = a ∷ b ∷ c ∷ d ∷ []
@@ -55,31 +58,31 @@ unfoldable pub twelve : List Story
 twelve =
     -- P1 to P9
     story 2 (two (quad 2 0 0 1) (quad 0 0 2 M) (quad 0 0 0 M))
-    (row (insert 5 50) (quad 2 5 0 0) (two (quad 2 1 1 2) (quad 5 50 0 0) (quad 0 0 0 M))
-    ∷ row (insert 9 90) (quad 2 9 0 2) (two (quad 2 2 2 0) (quad 5 50 0 0) (quad 9 90 1 0))
-    ∷ row (insert 7 70) (quad 5 0 0 4) (two (quad 2 1 2 0) (quad 5 50 0 2) (quad 9 90 0 0))
-    ∷ row (insert 9 91) (quad 3 9 90 4) (two (quad 2 2 2 0) (quad 5 50 0 0) (quad 9 91 1 0))
-    ∷ row (remove 5) (quad 4 5 50 4) (two (quad 2 2 1 1) (quad 0 0 0 M) (quad 9 91 0 0))
-    ∷ row (insert 1 10) (quad 2 1 0 2) (two (quad 2 1 2 0) (quad 1 10 0 2) (quad 9 91 0 0))
-    ∷ row (next 1) (quad 0 9 91 3) (two (quad 2 1 2 0) (quad 1 10 0 2) (quad 9 91 0 0))
-    ∷ row take-last (quad 4 9 91 0) (two (quad 2 1 1 2) (quad 1 10 0 0) (quad 0 0 0 M))
+    (row (three 5 5 50) (quad 2 5 0 0) (two (quad 2 1 1 2) (quad 5 50 0 0) (quad 0 0 0 M))
+    ∷ row (three 5 9 90) (quad 2 9 0 2) (two (quad 2 2 2 0) (quad 5 50 0 0) (quad 9 90 1 0))
+    ∷ row (three 5 7 70) (quad 5 0 0 4) (two (quad 2 1 2 0) (quad 5 50 0 2) (quad 9 90 0 0))
+    ∷ row (three 5 9 91) (quad 3 9 90 4) (two (quad 2 2 2 0) (quad 5 50 0 0) (quad 9 91 1 0))
+    ∷ row (three 6 5 0) (quad 4 5 50 4) (two (quad 2 2 1 1) (quad 0 0 0 M) (quad 9 91 0 0))
+    ∷ row (three 5 1 10) (quad 2 1 0 2) (two (quad 2 1 2 0) (quad 1 10 0 2) (quad 9 91 0 0))
+    ∷ row (three 3 1 0) (quad 0 9 91 3) (two (quad 2 1 2 0) (quad 1 10 0 2) (quad 9 91 0 0))
+    ∷ row (three 10 0 0) (quad 4 9 91 0) (two (quad 2 1 1 2) (quad 1 10 0 0) (quad 0 0 0 M))
     ∷ [])
     -- P10, and a row more
     ∷ story 4 (four (quad 4 0 0 1) (quad 0 0 2 M) (quad 0 0 3 M) (quad 0 0 4 M) (quad 0 0 0 M))
-    (before (insert 1 0)
-    ∷ before (insert 2 0)
-    ∷ before (insert 3 0)
-    ∷ before (insert 4 0)
-    ∷ row (get 1) (quad 0 1 0 6) (four (quad 4 1 4 0) (quad 1 0 0 3) (quad 2 0 0 0) (quad 3 0 2 4) (quad 4 0 0 0))
+    (before (three 5 1 0)
+    ∷ before (three 5 2 0)
+    ∷ before (three 5 3 0)
+    ∷ before (three 5 4 0)
+    ∷ row (three 1 1 0) (quad 0 1 0 6) (four (quad 4 1 4 0) (quad 1 0 0 3) (quad 2 0 0 0) (quad 3 0 2 4) (quad 4 0 0 0))
     -- Not in document 01: a remove whose left subtree has its largest key below its root, so that the second splay shows.
-    ∷ row (remove 3) (quad 4 3 0 6) (four (quad 4 2 3 3) (quad 1 0 0 0) (quad 2 0 1 4) (quad 0 0 0 M) (quad 4 0 0 0))
+    ∷ row (three 6 3 0) (quad 4 3 0 6) (four (quad 4 2 3 3) (quad 1 0 0 0) (quad 2 0 1 4) (quad 0 0 0 M) (quad 4 0 0 0))
     ∷ [])
     -- P11 and P12
     ∷ story 2 (two (quad 2 0 0 1) (quad 0 0 2 M) (quad 0 0 0 M))
-    (before (insert 1 0)
-    ∷ before (insert 2 0)
-    ∷ row (get 0) (quad 1 0 0 3) (two (quad 2 1 2 0) (quad 1 0 0 2) (quad 2 0 0 0))
-    ∷ row (prev 0) (quad 1 0 0 2) (two (quad 2 1 2 0) (quad 1 0 0 2) (quad 2 0 0 0))
-    ∷ row (next M) (quad 1 0 0 3) (two (quad 2 2 2 0) (quad 1 0 0 0) (quad 2 0 1 0))
+    (before (three 5 1 0)
+    ∷ before (three 5 2 0)
+    ∷ row (three 1 0 0) (quad 1 0 0 3) (two (quad 2 1 2 0) (quad 1 0 0 2) (quad 2 0 0 0))
+    ∷ row (three 4 0 0) (quad 1 0 0 2) (two (quad 2 1 2 0) (quad 1 0 0 2) (quad 2 0 0 0))
+    ∷ row (three 3 M 0) (quad 1 0 0 3) (two (quad 2 2 2 0) (quad 1 0 0 0) (quad 2 0 1 0))
     ∷ [])
     ∷ []

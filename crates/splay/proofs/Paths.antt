@@ -86,8 +86,8 @@ module _ {K : Type 0} where
 
   -- The trees gathered while the walk goes to the side d: the one that it joins, and the other.
   abbrev pub gather : Side → List (Frame K) → List (Frame K) → ℕ → Gathered K
-  gather left g o n = record { lefts = plug right o none; rights = plug left g none; count = n }
-  gather right g o n = record { lefts = plug right g none; rights = plug left o none; count = n }
+  gather left g o n = record { left-tree = plug right o none; right-tree = plug left g none; count = n }
+  gather right g o n = record { left-tree = plug right g none; right-tree = plug left o none; count = n }
 
   pub gather-tick : (d : Side) (g o : List (Frame K)) (n : ℕ) → tick (gather d g o n) ≡ gather d g o (suc n)
   gather-tick left g o n = refl

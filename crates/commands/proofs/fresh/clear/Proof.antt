@@ -1,0 +1,46 @@
+-- `commands::fresh::clear` meets its contract: N and the size are read off the header before the new arena takes its place.
+use mathlib.Core.Path.{_≡_, ap, _∙_, subst}
+use Prim.Native.Nat.{ℕ}
+use borrow.Author.Needs.{needs}
+use Rattle.rules.specs.Edition.{tags}
+use Rattle.rules.specs.Perform.{new, perform}
+use Rattle.rules.specs.Arena.{WellFormed, over}
+use Rattle.commands.specs.declared.answer.Answer.{Answer}
+use Rattle.commands.proofs.fresh.clear.Statement.{statement}
+use Rattle.commands.proofs.fresh.clear.Tie as tie
+
+slice-read-size : tie.Need-slice-read-size
+slice-read-size c = search needs
+
+slice-read-n : tie.Need-slice-read-n
+slice-read-n c = search needs
+
+fresh-requires : tie.Need-fresh-requires
+fresh-requires c κs = search needs
+
+counted-requires : tie.Need-counted-requires
+counted-requires c κs = search needs
+
+same-length : tie.Need-same-length
+same-length c = search needs
+
+returns : tie.Need-returns
+unfolding perform
+returns c st f =
+    let r = c .counted .ensures in
+    let made = c .before .before .before in
+    let w = made .before .before .before .before .before .args .a .now in
+    record {
+      says =
+          record {
+            code = ap (λ (a : Answer). a .code) r;
+            key = ap (λ (a : Answer). a .key) r;
+            value = ap (λ (a : Answer). a .value) r ∙ f .size-word;
+            count = ap (λ (a : Answer). a .count) r;
+          };
+      words = made .fresh .ensures .0 ∙ ap (λ (n : ℕ). over tags (new n) w) (f .slots);
+      formed = subst (λ (n : ℕ). WellFormed tags (made .fresh .last .0) (new n)) (f .slots) (made .fresh .ensures .1);
+    }
+
+pub clear-spec : {M : Type 1} → statement M
+clear-spec = tie.close (tie.spec slice-read-size slice-read-n fresh-requires counted-requires same-length returns)

@@ -1,0 +1,2 @@
+-- What the check of an arena answers.
+pub mod Verdict

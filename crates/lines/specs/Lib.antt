@@ -1,0 +1,2 @@
+-- What the contracts of this crate say of a line's bytes and words.
+pub mod Read
