@@ -1,19 +1,20 @@
 // The twelve commands on an arena: the port of tree.rs. Every function here may assume a well-formed arena, and leaves one.
 mod answer;
 mod change;
-mod fresh;
 mod lookup;
+mod making;
 mod neighbours;
 
-use answer::Answer;
-use answer::bare;
+pub use answer::Answer;
+pub use answer::bare;
 use answer::counted;
 use change::insert;
 use change::remove;
 use change::take;
-use fresh::clear;
 use lookup::get;
 use lookup::write;
+use making::clear;
+pub use making::fresh;
 use neighbours::neighbour;
 use neighbours::outer;
 ghost use Prim.Native.Nat.{ℕ};

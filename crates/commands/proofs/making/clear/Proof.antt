@@ -1,4 +1,4 @@
--- `commands::fresh::clear` meets its contract: N and the size are read off the header before the new arena takes its place.
+-- `commands::making::clear` meets its contract: N and the size are read off the header before the new arena takes its place.
 use mathlib.Core.Path.{_≡_, ap, _∙_, subst}
 use Prim.Native.Nat.{ℕ}
 use borrow.Author.Needs.{needs}
@@ -6,8 +6,8 @@ use Rattle.rules.specs.Edition.{tags}
 use Rattle.rules.specs.Perform.{new, perform}
 use Rattle.rules.specs.Arena.{WellFormed, over}
 use Rattle.commands.specs.declared.answer.Answer.{Answer}
-use Rattle.commands.proofs.fresh.clear.Statement.{statement}
-use Rattle.commands.proofs.fresh.clear.Tie as tie
+use Rattle.commands.proofs.making.clear.Statement.{statement}
+use Rattle.commands.proofs.making.clear.Tie as tie
 
 slice-read-size : tie.Need-slice-read-size
 slice-read-size c = search needs

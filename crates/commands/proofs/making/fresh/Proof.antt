@@ -1,11 +1,11 @@
--- `commands::fresh::fresh` meets its contract. The loop chains one slot in each turn, and the measure is how many are left.
+-- `commands::making::fresh` meets its contract. The loop chains one slot in each turn, and the measure is how many are left.
 use mathlib.Core.Path.{_∙_}
 use Prim.Native.Nat.{_-_}
 use native.Mathlib.Omega.{arith}
 use lib.ListN.{length-set}
 use Rattle.commands.proofs.Chaining.{headed-length, Chaining, chain-begin, chain-turn, chain-end}
-use Rattle.commands.proofs.fresh.fresh.Statement.{statement}
-use Rattle.commands.proofs.fresh.fresh.Tie as tie
+use Rattle.commands.proofs.making.fresh.Statement.{statement}
+use Rattle.commands.proofs.making.fresh.Tie as tie
 
 abbrev Inv-loop : tie.InvT-loop
 Inv-loop a₀ n x₀ a x = Chaining n a₀ a x

@@ -1,0 +1,3 @@
+-- Why the calls of the map give what the rules say.
+pub mod Called
+pub mod Running

@@ -1,0 +1,2 @@
+-- What the calls of the map promise, in words.
+pub mod Told

@@ -1,0 +1,27 @@
+-- Answers as words, and what a step and the steps of a run leave. The set's steps are these with its reading.
+use mathlib.Core.List.{List, [], _∷_, _++_}
+use mathlib.Core.Path.{_≡_}
+use Prim.Native.Nat.{ℕ, _*_, _/_}
+use lib.ListN.{length, drop}
+use Rattle.rules.specs.Edition.{tags}
+use Rattle.rules.specs.Command.{Command, answer-words}
+use Rattle.rules.specs.Perform.{State}
+use Rattle.rules.specs.Arena.{WellFormed, over}
+use Rattle.rules.specs.Reading.{Reading}
+use Rattle.rules.specs.Calls.{perform-as, perform-all, commands-of, all-answers}
+use Rattle.commands.specs.declared.answer.Answer.{Answer}
+
+-- An answer's four words.
+abbrev pub four : Answer → List ℕ
+four r = r .code ∷ r .key ∷ r .value ∷ r .count ∷ []
+
+-- One command is done, and its answer stands at the front of the lent words; those behind it stay.
+pub record Stepped (r : Reading) (c : Command ℕ) (st : State ℕ) (w w′ out out′ : List ℕ) : Type 0 where
+  pub told : out′ ≡ answer-words tags (perform-as tags r c st .answer) ++ drop 4 out
+  pub words : w′ ≡ over tags (perform-as tags r c st .state) w
+  pub formed : WellFormed tags w′ (perform-as tags r c st .state)
+
+-- All commands of a list are done, each answer after the one before; answer words beyond stay.
+pub record Ran-all (r : Reading) (list : List ℕ) (st : State ℕ) (w w′ out out′ : List ℕ) : Type 0 where
+  pub told : out′ ≡ all-answers tags (perform-all tags r (commands-of tags list) st .answers) ++ drop (4 * (length list / 3)) out
+  pub words : w′ ≡ over tags (perform-all tags r (commands-of tags list) st .state) w
