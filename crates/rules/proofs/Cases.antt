@@ -157,10 +157,10 @@ through-tree-one given (damaged no-state e) = e
 
 -- The live entries after calls of both readings; the last two are refused (NO ROOM, RAGGED) and do nothing.
 live-after : live tags 2
-    (one as-map (insert 5 50) ∷ run as-map (5 ∷ 9 ∷ 90 ∷ 5 ∷ 7 ∷ 70 ∷ 2 ∷ 5 ∷ 51 ∷ []) 12 ∷ run as-set (2 ∷ 9 ∷ 1 ∷ 5 ∷ 9 ∷ 7 ∷ []) 8
-    ∷ run as-map (11 ∷ 0 ∷ 0 ∷ []) 3 ∷ run as-map (11 ∷ 0 ∷ []) 30 ∷ []) []
+    (one as-map 5 5 50 ∷ run as-map (5 ∷ 9 ∷ 90 ∷ 5 ∷ 7 ∷ 70 ∷ 2 ∷ 5 ∷ 51 ∷ []) (zeros 12)
+    ∷ run as-set (2 ∷ 9 ∷ 1 ∷ 5 ∷ 9 ∷ 7 ∷ []) (zeros 8) ∷ run as-map (11 ∷ 0 ∷ 0 ∷ []) (zeros 3) ∷ run as-map (11 ∷ 0 ∷ []) (zeros 30) ∷ []) []
     ≡ (pair tags 5 51 ∷ pair tags 9 0 ∷ [])
-unfolding commands refusal last but-last find put without after after-all after-call live
+unfolding zeros commands refusal last but-last find put without after after-all after-call live
 live-after = refl
 
 -- The bytes of a text in ASCII, and of lines that each end with a newline.

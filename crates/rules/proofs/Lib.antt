@@ -20,6 +20,14 @@ pub mod Performed
 pub mod Kept
 pub mod Nearest
 pub mod Run
+-- Whole calls: when they refuse, what they give and leave; the slots of an arena; codes; calls in order; runs cut in two.
+pub mod Checked
+pub mod Slots
+pub mod Replies
+pub mod Happened
+pub mod Cut
+-- The demands.
+pub mod Demands
 -- The table of twelve arenas, and more cases.
 pub mod Twelve
 pub mod Cases

@@ -2,16 +2,18 @@
 use mathlib.Core.List.{List, [], _∷_}
 use mathlib.Core.Option.{Option, none as nil, some}
 use Prim.Native.Nat.{ℕ}
+use lib.ListN.{length}
 use Rattle.rules.specs.Edition.{Edition}
-use Rattle.rules.specs.Command.{Command, Code, Reply}
+use Rattle.rules.specs.Command.{Command, command, Code, Reply}
 use Rattle.rules.specs.Live.{Pair, after, reply}
 use Rattle.rules.specs.Reading.{Reading, read-as, reply-as}
 use Rattle.rules.specs.Calls.{commands-of, refusal}
 
--- A call: one command, or a run of command words with so many answer words lent. "A set's command counts as the set reads it."
+-- A call, with all that it is given besides the arena: one command, "number, key, value"; or a run's command words and the words of the
+-- answer buffer that it is lent. "A set's command counts as the set reads it."
 pub data Call (K : Type 0) : Type 0 where
-  one : Reading → Command K → Call K
-  run : Reading → List ℕ → ℕ → Call K
+  one : Reading → ℕ → K → ℕ → Call K
+  run : Reading → List ℕ → List ℕ → Call K
 
 module _ {K : Type 0} (ed : Edition K) where
   -- The entries after commands in order, and what each answers.
@@ -28,10 +30,10 @@ module _ {K : Type 0} (ed : Edition K) where
   done-by nil w = commands-of ed w
   done-by (some c) w = []
 
-  -- The entries after a call.
+  -- The entries after a call. Of the answer buffer only its length counts: a run that has too little room is refused.
   unfoldable pub after-call : ℕ → Call K → List (Pair K) → List (Pair K)
-  after-call n (one r c) l = after-all n r (c ∷ []) l
-  after-call n (run r w room) l = after-all n r (done-by (refusal ed w room) w) l
+  after-call n (one r m k v) l = after ed n (read-as r (command m k v)) l
+  after-call n (run r cs buffer) l = after-all n r (done-by (refusal ed cs (length buffer)) cs) l
 
   -- Which keys are live with which value after calls in order on an arena of n slots, from those that were live before: none for a new
   -- arena.

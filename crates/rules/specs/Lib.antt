@@ -5,7 +5,8 @@
 --   "Commands": Command (the tables, words of commands and answers), Perform, Reading (the set), Calls (whole calls and what they refuse);
 --   "The line program": Lines;
 --   "Twelve arenas to prove": Twelve;
---   "What each call owes its reader": Live (the live entries, with no tree), History (the same over calls).
+--   "What each call owes its reader": Live (the live entries, with no tree), History (the same over calls), Demands (what it
+--   is for calls to have happened, and what has to hold of them; the theorems are in proofs/Demands.antt).
 -- What is proved of them stands in proofs/, and worked cases in proofs/Cases.antt.
 pub mod Order
 pub mod Edition
@@ -18,5 +19,6 @@ pub mod Arena
 pub mod Reading
 pub mod Calls
 pub mod History
+pub mod Demands
 pub mod Lines
 pub mod Twelve
