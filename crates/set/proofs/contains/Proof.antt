@@ -1,0 +1,24 @@
+-- `set::contains` meets its contract.
+use borrow.Author.Needs.{needs}
+use Rattle.rules.specs.Command.{get}
+use Rattle.set.proofs.Asked.{asked}
+use Rattle.set.proofs.contains.Statement.{statement}
+use Rattle.set.proofs.contains.Tie as tie
+
+one-requires : tie.Need-one-requires
+one-requires c κs = search needs
+
+of-key-requires : tie.Need-of-key-requires
+of-key-requires c κs = search needs
+
+same-length : tie.Need-same-length
+same-length c = search needs
+
+returns : tie.Need-returns
+returns c =
+    let m = c .before .before .before in
+    let a = m .before .before .before .args in
+    asked (get (a .key)) (m .one .ensures) (c .of-key .ensures)
+
+pub contains-spec : {M : Type 1} → statement M
+contains-spec = tie.close (tie.spec one-requires of-key-requires same-length returns)

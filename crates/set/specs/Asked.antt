@@ -1,0 +1,31 @@
+-- What a call about one key tells of it, and the arena afterwards.
+use mathlib.Core.List.{List, [], _∷_}
+use Prim.Native.Nat.{ℕ}
+use lib.ListN.{getD}
+use Rattle.rules.specs.Edition.{tags}
+use Rattle.rules.specs.Command.{Command, code-number}
+use Rattle.rules.specs.Perform.{State}
+use Rattle.rules.specs.Arena.{over}
+use Rattle.rules.specs.Reading.{as-set}
+use Rattle.rules.specs.Calls.{Checked, perform-as}
+use Rattle.set.specs.declared.Was.{Was}
+use Rattle.set.specs.declared.Was.the-variants as is
+
+-- By the answer's code: "0 FOUND, 1 ABSENT, 2 NEW, 3 REPLACED, 4 REMOVED, 5 FULL". The other code that an answer about a key can have
+-- is DAMAGED.
+abbrev pub was-of : ℕ → Was
+was-of n = getD (is.There ∷ is.Absent ∷ is.Absent ∷ is.There ∷ is.There ∷ is.Full ∷ []) n is.Refused
+
+-- What a call about one key gives.
+pub record Told : Type 0 where
+  pub was : Was
+  pub arena : List ℕ
+
+abbrev pub told-on : Command ℕ → List ℕ → State ℕ → Told
+told-on c w st =
+    let o = perform-as tags as-set c st in
+    record { was = was-of (code-number (o .answer .code)); arena = over tags (o .state) w }
+
+-- A call for the set's command c on the arena w gives `given`.
+abbrev pub Asks : Command ℕ → List ℕ → Told → Type 0
+Asks c w given = Checked tags w (told-on c w) (record { was = is.Refused; arena = w }) given

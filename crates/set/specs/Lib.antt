@@ -1,0 +1,3 @@
+-- What the calls about one key tell, and what it is to be among the keys.
+pub mod Asked
+pub mod Members
