@@ -1,6 +1,7 @@
-// Replays the recorded list. Standard input holds makings and commands in the format of oracle/README.md, each line with its newline.
-// They are done by the public calls of the map, in one arena, and each command's answer goes to standard output as the oracle writes it,
-// with the sum of the tree's shape; so what is written has to be, byte for byte, what the Rust answered.
+// Replays the recorded lists. Standard input holds makings and commands in the format of oracle/README.md, each line with its newline; a
+// making that begins with s and not n starts an arena of the set. They are done by the public calls of the map or of the set, in one arena,
+// and each command's answer goes to standard output as the oracle writes it, with the sum of the tree's shape; so what is written has to
+// be, byte for byte, what the Rust answered.
 mod shape;
 mod text;
 
@@ -15,10 +16,11 @@ ghost use lib.ListN.{length};
 // The bytes of an output line: 32 digits, a space, the shape's 8, a newline.
 const WIDTH: usize = 42;
 
-// What is kept from byte to byte: how much of the present line was read, whether this arena's first take has passed, how many bytes of
-// output wait, and whether there may be more input.
+// What is kept from byte to byte: how much of the present line was read, whether this arena is a set, whether its first take has passed,
+// how many bytes of output wait, and whether there may be more input.
 struct Kept {
     len: usize,
+    set: bool,
     taking: bool,
     used: usize,
     more: bool,
@@ -68,19 +70,28 @@ fn put(out: &mut [u8; 65536], at: usize, r: Answer, taking: bool, sum: u32)
     out[at + 41] = b'\n';
 }
 
+// Does a command as the arena's kind has it.
+fn command(a: &mut [u32; 16384], set: bool, number: u32, key: u32, value: u32) -> Answer {
+    if set {
+        return set::one(a, number, key, value);
+    }
+    map::one(a, number, key, value)
+}
+
 // Does the command of a whole line, and puts its answer.
 fn answer(a: &mut [u32; 16384], line: &[u8; 24], out: &mut [u8; 65536], k: Kept) -> Kept
     requires { ⌜ k .used ≤ 65536 ⌝ }
     ensures { λ r. ⌜ r .used ≤ 65536 ⌝ }
 {
     let number = word_at(line, 0);
-    let r = map::one(a, number, word_at(line, 8), word_at(line, 16));
+    let r = command(a, k.set, number, word_at(line, 8), word_at(line, 16));
     let taking = k.taking || number == 9 || number == 10;
     let sum = if taking { 0 } else { shape_sum(a) };
     let at = room(out, k.used);
     put(out, at, r, taking, sum);
     Kept {
         len: 0,
+        set: k.set,
         taking,
         used: at + WIDTH,
         more: k.more,
@@ -92,12 +103,13 @@ fn obey(a: &mut [u32; 16384], line: &[u8; 24], out: &mut [u8; 65536], k: Kept) -
     requires { ⌜ k .used ≤ 65536 ⌝ }
     ensures { λ r. ⌜ r .used ≤ 65536 ⌝ }
 {
-    if line[0] != b'n' {
+    if line[0] != b'n' && line[0] != b's' {
         return answer(a, line, out, k);
     }
     map::make(a, word_at(line, 1));
     Kept {
         len: 0,
+        set: line[0] == b's',
         taking: false,
         used: k.used,
         more: k.more,
@@ -125,6 +137,7 @@ fn take_byte(
     line[len] = b;
     Kept {
         len: len + 1,
+        set: k.set,
         taking: k.taking,
         used: k.used,
         more: k.more,
@@ -162,6 +175,7 @@ fn turn(a: &mut [u32; 16384], line: &mut [u8; 24], out: &mut [u8; 65536], k: Kep
     if n == 0 {
         return Kept {
             len: k.len,
+            set: k.set,
             taking: k.taking,
             used: k.used,
             more: false,
@@ -177,6 +191,7 @@ fn main() {
     let mut out = [0u8; 65536];
     let mut k = Kept {
         len: 0,
+        set: false,
         taking: false,
         used: 0,
         more: true,
