@@ -44,7 +44,7 @@ words-put [] l at k = refl
 words-put (w ∷ ws) l at k =
     rw (sets-append, spelled-length, add-assoc) (words-put ws (sets l (at + k) (spelled 8 w)) at (k + 8))
 
-all-spelled-length : (ws : List ℕ) → length (all-spelled ws) ≡ 8 * length ws
+pub all-spelled-length : (ws : List ℕ) → length (all-spelled ws) ≡ 8 * length ws
 unfolding all-spelled
 all-spelled-length [] = refl
 all-spelled-length (w ∷ ws) = rw (length-append, spelled-length, all-spelled-length ws) (omega arith)

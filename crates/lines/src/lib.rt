@@ -8,6 +8,7 @@ ghost use lib.Seq.{sets};
 ghost use Rattle.rules.specs.Lines.{digit, digits, byte-of, spelled, all-spelled, newline};
 ghost use Rattle.lines.specs.Read.{coded, Digit-table, word-from, Reads};
 
+pub mod stream;
 mod tables;
 
 use tables::BAD;
@@ -69,24 +70,32 @@ fn read_word(table: &[u8; 256], line: &[u8], at: usize) -> Word
     Word::Number(n)
 }
 
-// What the line says: the three words of exactly 24 digits, and of anything else that it is bad.
-pub fn read_line(line: &[u8]) -> Line
+// What the line says: the three words of exactly 24 digits, and of anything else that it is bad. The table is lent.
+pub fn read_with(table: &[u8; 256], line: &[u8]) -> Line
+    requires { ⌜ Digit-table (now table) ⌝ }
     ensures { λ r. ⌜ Reads (now (line .entry)) r ⌝ }
 {
     if line.len() != 24 {
         return Line::Bad;
     }
-    let table = digit_table();
-    let Word::Number(number) = read_word(&table, line, 0) else {
+    let Word::Number(number) = read_word(table, line, 0) else {
         return Line::Bad;
     };
-    let Word::Number(key) = read_word(&table, line, 8) else {
+    let Word::Number(key) = read_word(table, line, 8) else {
         return Line::Bad;
     };
-    let Word::Number(value) = read_word(&table, line, 16) else {
+    let Word::Number(value) = read_word(table, line, 16) else {
         return Line::Bad;
     };
     Line::Command(number, key, value)
+}
+
+// The same of a line alone.
+pub fn read_line(line: &[u8]) -> Line
+    ensures { λ r. ⌜ Reads (now (line .entry)) r ⌝ }
+{
+    let table = digit_table();
+    read_with(&table, line)
 }
 
 // The byte of a digit.

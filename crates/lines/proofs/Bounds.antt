@@ -1,0 +1,24 @@
+-- How far a call of feed goes, for callers: it takes no more than its input, and writes no more than its buffer.
+-- Assumes nothing.
+use mathlib.Core.List.{List}
+use Prim.Native.Nat.{ℕ, _≤_}
+use native.Mathlib.Omega.{arith}
+use lib.ListN.{length, drop, take, length-append}
+use Rattle.rules.specs.Edition.{tags}
+use Rattle.rules.specs.Calls.{well-formed, damaged}
+use Rattle.rules.specs.Lines.{respond}
+use Rattle.lines.specs.declared.stream.Pending.{Pending}
+use Rattle.lines.specs.Stream.{ended, taking, After, fed-with, Feeds}
+use Rattle.lines.proofs.Pieces.{taking-within}
+
+pub takes-within : (p : Pending) (input out : List ℕ) {w : List ℕ} {given : After} → Feeds p input out w given
+    → given .returned .read ≤ length input
+unfolding fed-with
+takes-within p input out (well-formed st f e) = rw e (taking-within (length out) input)
+takes-within p input out (damaged no-state e) = rw e (omega arith)
+
+pub writes-within : (p : Pending) (input out : List ℕ) {w : List ℕ} {given : After} → Feeds p input out w given
+    → given .returned .written ≤ length (given .out)
+unfolding fed-with
+writes-within p input out (well-formed st f e) = rw e (simp length-append (omega arith))
+writes-within p input out (damaged no-state e) = rw e (omega arith)

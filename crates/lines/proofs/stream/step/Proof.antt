@@ -1,0 +1,72 @@
+use mathlib.Core.Path.{sym, _∙_, ap}
+use borrow.Author.Needs.{needs}
+use Rattle.lines.proofs.Taken.{step-ended, step-longer}
+use Rattle.lines.proofs.stream.step.Statement.{statement}
+use Rattle.lines.proofs.stream.step.Tie as tie
+use Rattle.lines.proofs.stream.step.Reads as reads
+use Rattle.lines.proofs.stream.step.Lts as lts
+use Rattle.lines.proofs.stream.answer.Reads as answer-reads
+use Rattle.lines.proofs.stream.longer.Reads as longer-reads
+use Rattle.lines.proofs.stream.no_line.Reads as no-line-reads
+
+-- src/stream.rt:98:9
+answer-requires : tie.Need-answer-requires
+answer-requires c κs = search needs
+
+-- src/stream.rt:101:22
+no-line-requires : tie.Need-no-line-requires
+no-line-requires c κs = search needs
+
+-- src/stream.rt:102:19
+add-t15 : tie.Need-add-t15
+add-t15 c = search needs
+
+-- src/stream.rt:103:22
+add-t16 : tie.Need-add-t16
+add-t16 c = search needs
+
+-- src/stream.rt:99:9
+same-length : tie.Need-same-length
+same-length c = search needs
+
+-- src/stream.rt:99:9
+same-length-2 : tie.Need-same-length-2
+same-length-2 c = search needs
+
+-- src/stream.rt:99:9
+returns : tie.Need-returns
+returns c st f =
+    let answered = c .before .before .before .before .before .before in
+    let t = answered .before .before .before in
+    let given = t .before .before .before .before .args in
+    step-ended (given .fed) (given .b) (t .if1 .taken) (c .before .no-line .ensures) (answered .answer .ensures st f)
+
+-- src/stream.rt:108:18
+longer-requires : tie.Need-longer-requires
+longer-requires c κs = search needs
+
+-- src/stream.rt:109:15
+add-t18 : tie.Need-add-t18
+add-t18 c = search needs
+
+-- src/stream.rt:90:1
+returns-2 : tie.Need-returns-2
+returns-2 c st f =
+    let e = c .before .before in
+    let given = e .before .before .before .before .args in
+    step-longer (given .out .now) (given .fed) (given .b) (e .if1 .left) (c .before .longer .ensures) f
+
+pub step-spec : {M : Type 1} → statement M
+step-spec =
+    tie.close
+    (tie.spec
+    answer-requires
+    no-line-requires
+    add-t15
+    add-t16
+    same-length
+    same-length-2
+    returns
+    longer-requires
+    add-t18
+    returns-2)
