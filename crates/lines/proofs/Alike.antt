@@ -10,7 +10,7 @@ use Prim.Native.Nat.{ℕ, zero, suc, _+_, _≤_, _<_}
 use native.Mathlib.Numerals.{add-one}
 use native.Mathlib.Omega.{arith}
 use lib.Dec.{eqb, ltb}
-use lib.ListN.{length, take, set, length-append, length-set}
+use lib.ListN.{length, set, length-append, length-set}
 use lib.Seq.{take-append-le, take-suc-set}
 use borrow.Author.Tests.{ltb-true, ltb-false}
 use Rattle.rules.specs.Order.{choose}
@@ -93,9 +93,10 @@ kept-longer p b h = by (ltb (p .len) 24) refl
           take-append-le (p .len) (p .bytes) (0 ∷ []) (omega arith),
         ))
     by false e =
-        inr
-        (omega (arith, so-far-length (record { bytes = p .bytes; len = 25 }) h),
-        simp length-append (omega (arith, ltb-false, so-far-length p h)))
+        inr (
+          omega (arith, so-far-length (record { bytes = p .bytes; len = 25 }) h),
+          simp length-append (omega (arith, ltb-false, so-far-length p h)),
+        )
 
 -- The end of the input.
 closed : (p : Pending) (m : List ℕ) → Sized p → Alike (so-far p) m → AllAlike (ended p (closing p)) (unfinished m)

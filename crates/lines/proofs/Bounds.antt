@@ -3,12 +3,10 @@
 use mathlib.Core.List.{List}
 use Prim.Native.Nat.{ℕ, _≤_}
 use native.Mathlib.Omega.{arith}
-use lib.ListN.{length, drop, take, length-append}
-use Rattle.rules.specs.Edition.{tags}
+use lib.ListN.{length, length-append}
 use Rattle.rules.specs.Calls.{well-formed, damaged}
-use Rattle.rules.specs.Lines.{respond}
 use Rattle.lines.specs.declared.stream.Pending.{Pending}
-use Rattle.lines.specs.Stream.{ended, taking, After, fed-with, Feeds}
+use Rattle.lines.specs.Stream.{After, fed-with, Feeds}
 use Rattle.lines.proofs.Pieces.{taking-within}
 
 pub takes-within : (p : Pending) (input out : List ℕ) {w : List ℕ} {given : After} → Feeds p input out w given

@@ -2,9 +2,9 @@
 -- say of the input, and leave the words of the state that its lines leave.
 -- Assumes nothing.
 use mathlib.Core.Bool.{Bool, true, false}
-use mathlib.Core.List.{List, [], _∷_, _++_, append-assoc, append-nil}
+use mathlib.Core.List.{List, [], _∷_, _++_}
 use mathlib.Core.Path.{_≡_, refl, sym, _∙_, ap}
-use Prim.Native.Nat.{ℕ, zero, suc, _+_, _-_, _≤_, _<_}
+use Prim.Native.Nat.{ℕ, _≤_}
 use native.Mathlib.Omega.{arith}
 use lib.Dec.{eqb}
 use lib.ListN.{length, take, drop}
@@ -13,7 +13,7 @@ use borrow.Author.Tests.{le-leb}
 use Rattle.rules.specs.Order.{choose}
 use Rattle.rules.specs.Edition.{tags}
 use Rattle.rules.specs.Perform.{State, new}
-use Rattle.rules.specs.Arena.{WellFormed, over, place}
+use Rattle.rules.specs.Arena.{WellFormed, over}
 use Rattle.rules.specs.Calls.{well-formed, damaged}
 use Rattle.rules.specs.Lines.{newline, respond, lines, output}
 use Rattle.rules.proofs.Order.{tags-lawful}
@@ -107,14 +107,13 @@ cut {w} {w′} {input} {written} {p} n out given f calls room g =
     let rest = take (given .returned .read) (closing p) in
     let t = both s (one-took p (closing p) out (s .formed) g) in
     let ended-so : rest ≡ closing (held no-line input) =
-        ap (λ (a : After). take (a .returned .read) (closing p)) (served p (closing p) out (s .formed) g)
-        ∙ all-taken (length out) p room
-        ∙ ap closing (s .line) in
+    ap (λ (a : After). take (a .returned .read) (closing p)) (served p (closing p) out (s .formed) g)
+    ∙ all-taken (length out) p room
+    ∙ ap closing (s .line) in
     let same : ended no-line (input ++ rest) ≡ ended no-line input ++ ended (held no-line input) (closing (held no-line input)) =
-        ended-append no-line input rest ∙ ap (λ (l : List ℕ). ended no-line input ++ ended (held no-line input) l) ended-so in
-    let alike = whole-lines no-line [] input refl no-line-alike in
-    (
+    ended-append no-line input rest ∙ ap (λ (l : List ℕ). ended no-line input ++ ended (held no-line input) l) ended-so in
+    let alike = whole-lines no-line [] input refl no-line-alike in (
       t .bytes ∙ ap (λ (ls : List (List ℕ)). respond tags ls (new n)) same ∙ same-answers alike (new n),
       t .words ∙ ap (λ (ls : List (List ℕ)). over tags (state-after ls (new n)) w) same
-      ∙ ap (λ (st : State ℕ). over tags st w) (same-state alike (new n)),
+          ∙ ap (λ (st : State ℕ). over tags st w) (same-state alike (new n)),
     )

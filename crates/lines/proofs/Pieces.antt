@@ -1,18 +1,18 @@
 -- Bytes that are taken in two pieces, and lines that are answered in two runs, give what they give at once.
 -- Assumes nothing.
 use mathlib.Core.Bool.{Bool, true, false}
-use mathlib.Core.List.{List, [], _∷_, _++_, append-nil, append-assoc}
+use mathlib.Core.List.{List, [], _∷_, _++_, append-assoc}
 use mathlib.Core.Option.{Option, none as nil, some}
 use mathlib.Core.Path.{_≡_, refl, sym, _∙_, ap}
-use Prim.Native.Nat.{ℕ, zero, suc, _+_, _*_, _-_, _≤_, _<_}
+use Prim.Native.Nat.{ℕ, suc, _-_, _≤_, _<_}
 use native.Mathlib.Omega.{arith}
 use lib.Dec.{eqb, leb}
-use lib.ListN.{length, take, drop, length-append}
+use lib.ListN.{length, length-append}
 use borrow.Author.Tests.{le-leb, lt-leb, eq-eqb, ne-eqb}
 use Rattle.rules.specs.Order.{choose}
 use Rattle.rules.specs.Edition.{tags}
 use Rattle.rules.specs.Command.{Command, Answer, answer-words}
-use Rattle.rules.specs.Perform.{State, perform}
+use Rattle.rules.specs.Perform.{State}
 use Rattle.rules.specs.Lines.{newline, line-command, line-outcome, answer-line, respond}
 use Rattle.rules.proofs.Order.{tags-lawful}
 use Rattle.rules.proofs.Sound.{Sound}

@@ -92,7 +92,7 @@ module _ (p : Pending) (input out w : List ℕ) (st : State ℕ) where
       let ls = ended p (take n input) in
       let now = ended q (b ∷ []) in
       let fits : length (respond tags ls st) + length (respond tags now (state-at n)) ≤ length out =
-          omega (arith, step-size q b (state-at n), at-most (eqb b newline)) in
+      omega (arith, step-size q b (state-at n), at-most (eqb b newline)) in
       rw (
         take-suc input n 0 h,
         held-append p (take n input) (b ∷ []),
@@ -136,10 +136,10 @@ module _ (p : Pending) (input out w : List ℕ) (st : State ℕ) where
       let wrote : fed .written ≡ written-at n = ap (λ (f : After). f .returned .written) (r .so) in
       let read′ : fed′ .read ≡ suc n = ap (λ (f : Fed). f .read) (s .returned) ∙ add-one n in
       let written′ : fed′ .written ≡ fed .written + choose (eqb b newline) 33 0 =
-          ap (λ (f : Fed). f .written) (s .returned) ∙ ap (λ (k : ℕ). fed .written + k) (step-size (fed .pending) b (state-at n)) in
+      ap (λ (f : Fed). f .written) (s .returned) ∙ ap (λ (k : ℕ). fed .written + k) (step-size (fed .pending) b (state-at n)) in
       let rest = drop (suc n) input in
       let before : n + taking (length out - fed .written) (b ∷ rest) ≡ taking (length out) input =
-          rw (drop-cons input n 0 h) at (r .going) in
+      rw (drop-cons input n 0 h) at (r .going) in
       record {
         so = one-more s
             ∙ ap (λ (f : After). more f b (state-at n)) (r .so)

@@ -1,5 +1,6 @@
 // The line program over pieces of its input: what it writes for them, and what it has to remember from one piece to the next.
 use crate::Line;
+use crate::NEWLINE;
 use crate::digit_table;
 use crate::read_with;
 use crate::write_answer;
@@ -15,8 +16,6 @@ ghost use Rattle.rules.specs.Lines.{line-command};
 ghost use Rattle.commands.specs.Did.{Formed};
 ghost use Rattle.lines.specs.Read.{Digit-table, meant};
 ghost use Rattle.lines.specs.Stream.{no-line, longer, so-far, feeding, Feeds, closing, Answered, Stepped};
-
-const NEWLINE: u8 = 10;
 
 // The bytes of a line that is not ended. A line of more than 24 bytes is bad whatever it holds, so that it is too long, len 25, is all
 // that is kept of it.

@@ -33,7 +33,6 @@ key-read c = sym (c .before .before .before .read-word2 .ensures) ∙ c .before 
 returns : tie.Need-returns
 returns c = read _ _ (sym (other-line (c .before .before .args .line .now) (λ e. omega arith)))
 
-
 read-word-requires : tie.Need-read-word-requires
 read-word-requires c κs = search needs
 

@@ -1,59 +1,45 @@
+-- `lines::stream::answer` meets its contract: a bad line is answered so, and any other by its command.
+-- Assumes nothing.
 use mathlib.Core.Path.{sym, _∙_, ap}
 use borrow.Author.Needs.{needs}
 use Rattle.lines.specs.Read.{meant}
 use Rattle.lines.proofs.Ended.{answered-bad, answered-by}
 use Rattle.lines.proofs.stream.answer.Statement.{statement}
 use Rattle.lines.proofs.stream.answer.Tie as tie
-use Rattle.lines.proofs.stream.answer.Reads as reads
-use Rattle.lines.proofs.stream.answer.Lts as lts
-use Rattle.commands.proofs.command.Reads as command-reads
-use Rattle.lines.proofs.stream.said.Reads as said-reads
-use Rattle.lines.proofs.write_answer.Reads as write-answer-reads
 
--- src/stream.rt:81:45
 said-requires : tie.Need-said-requires
 said-requires c κs = search needs
 
--- src/stream.rt:81:23
 enum-known-number : tie.Need-enum-known-number
 enum-known-number c = search needs
 
--- src/stream.rt:82:22
 enum-told : tie.Need-enum-told
 enum-told c = search needs
 
--- src/stream.rt:82:9
 write-answer-requires : tie.Need-write-answer-requires
 write-answer-requires c κs = search needs
 
--- src/stream.rt:83:9
 same-length : tie.Need-same-length
 same-length c = search needs
 
--- src/stream.rt:83:9
 returns : tie.Need-returns
 returns c st f =
     let s = c .before .before .before .before .before .before in
     answered-bad _ (sym (s .said .ensures) ∙ ap meant (c .before .before .before .before .enum-told .given .1)) f
     (c .before .before .write-answer .ensures)
 
--- src/stream.rt:85:9
 command-requires : tie.Need-command-requires
 command-requires c κs = search needs
 
--- src/stream.rt:86:5
 write-answer-requires-2 : tie.Need-write-answer-requires-2
 write-answer-requires-2 c κs = search needs
 
--- src/stream.rt:76:1
 same-length-2 : tie.Need-same-length-2
 same-length-2 c = search needs
 
--- src/stream.rt:76:1
 same-length-3 : tie.Need-same-length-3
 same-length-3 c = search needs
 
--- src/stream.rt:76:1
 returns-2 : tie.Need-returns-2
 returns-2 c st f =
     let w = c .before .before in

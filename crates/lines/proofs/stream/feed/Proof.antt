@@ -1,3 +1,5 @@
+-- `lines::stream::feed` meets its contract: the check decides.
+-- Assumes nothing.
 use mathlib.Core.Path.{refl}
 use borrow.Author.Tests.{not-true, not-false}
 use Rattle.rules.specs.Calls.{well-formed, damaged}
@@ -5,36 +7,25 @@ use Rattle.formed.proofs.Tells.{found, not-found}
 use borrow.Author.Needs.{needs}
 use Rattle.lines.proofs.stream.feed.Statement.{statement}
 use Rattle.lines.proofs.stream.feed.Tie as tie
-use Rattle.lines.proofs.stream.feed.Reads as reads
-use Rattle.lines.proofs.stream.feed.Lts as lts
-use Rattle.formed.proofs.check.Reads as check-reads
-use Rattle.lines.proofs.stream.serve.Reads as serve-reads
 
--- src/stream.rt:140:9
 check-requires : tie.Need-check-requires
 check-requires c κs = search needs
 
--- src/stream.rt:141:9
 same-length : tie.Need-same-length
 same-length c = search needs
 
--- src/stream.rt:141:9
 returns : tie.Need-returns
 returns c = damaged (not-found (c .before .check .ensures) (not-true _ (c .if1 .taken))) refl
 
--- src/stream.rt:148:5
 serve-requires : tie.Need-serve-requires
 serve-requires c κs = found (c .before .before .before .check .ensures) (not-false _ (c .before .before .if1 .left))
 
--- src/stream.rt:136:1
 same-length-2 : tie.Need-same-length-2
 same-length-2 c = search needs
 
--- src/stream.rt:136:1
 same-length-3 : tie.Need-same-length-3
 same-length-3 c = search needs
 
--- src/stream.rt:136:1
 returns-2 : tie.Need-returns-2
 returns-2 c =
     let e = c .before .before .before .before .before .before .before in

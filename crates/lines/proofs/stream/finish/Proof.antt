@@ -1,52 +1,40 @@
+-- `lines::stream::finish` meets its contract: it feeds what still has to come.
+-- Assumes nothing.
 use Rattle.lines.proofs.Pieces.{ended-whole, ended-open}
 use borrow.Author.Needs.{needs}
 use Rattle.lines.proofs.stream.finish.Statement.{statement}
 use Rattle.lines.proofs.stream.finish.Tie as tie
-use Rattle.lines.proofs.stream.finish.Reads as reads
-use Rattle.lines.proofs.stream.finish.Lts as lts
-use Rattle.lines.proofs.stream.feed.Reads as feed-reads
 
--- src/stream.rt:158:33
 array-share-prefix-newline : tie.Need-array-share-prefix-newline
 array-share-prefix-newline c = search needs
 
--- src/stream.rt:158:33
 slice-aggregate-feed : tie.Need-slice-aggregate-feed
 slice-aggregate-feed c = search needs
 
--- src/stream.rt:158:9
 feed-requires : tie.Need-feed-requires
 feed-requires c κs = search needs
 
--- src/stream.rt:158:9
 same-length : tie.Need-same-length
 same-length c = search needs
 
--- src/stream.rt:158:9
 same-length-2 : tie.Need-same-length-2
 same-length-2 c = search needs
 
--- src/stream.rt:158:9
 returns : tie.Need-returns
 returns c = rw (ended-whole (c .before .before .before .before .before .before .before .before .before .before .before .before .args .pending) (c .before .before .before .before .before .before .before .before .if1 .taken)) (c .before .before .before .before .feed .ensures)
 
--- src/stream.rt:160:22
 slice-aggregate-feed-2 : tie.Need-slice-aggregate-feed-2
 slice-aggregate-feed-2 c = search needs
 
--- src/stream.rt:160:5
 feed-requires-2 : tie.Need-feed-requires-2
 feed-requires-2 c κs = search needs
 
--- src/stream.rt:152:1
 same-length-3 : tie.Need-same-length-3
 same-length-3 c = search needs
 
--- src/stream.rt:152:1
 same-length-4 : tie.Need-same-length-4
 same-length-4 c = search needs
 
--- src/stream.rt:152:1
 returns-2 : tie.Need-returns-2
 returns-2 c = rw (ended-open (c .before .before .before .before .before .before .before .before .before .before .before .before .args .pending) (c .before .before .before .before .before .before .before .before .if1 .left)) (c .before .before .before .before .feed2 .ensures)
 

@@ -1,9 +1,10 @@
+-- `lines::stream::serve` meets its contract. The measure is how many bytes of the input are left.
+-- Assumes nothing.
 use mathlib.Core.Path.{_≡_, refl, _∙_, ap}
 use Prim.Native.Nat.{ℕ, _-_}
 use native.Mathlib.Omega.{arith}
 use lib.ListN.{length}
 use borrow.Author.Tests.{leb-true, leb-false}
-use borrow.Author.Needs.{needs}
 use Rattle.rules.specs.Edition.{tags}
 use Rattle.rules.specs.Perform.{State}
 use Rattle.rules.specs.Arena.{WellFormed}
@@ -11,10 +12,6 @@ use Rattle.lines.specs.declared.stream.Fed.{Fed}
 use Rattle.lines.proofs.Reached.{Reached, begun, turn, over-now, no-byte, no-room}
 use Rattle.lines.proofs.stream.serve.Statement.{statement}
 use Rattle.lines.proofs.stream.serve.Tie as tie
-use Rattle.lines.proofs.stream.serve.Reads as reads
-use Rattle.lines.proofs.stream.serve.Lts as lts
-use Rattle.lines.proofs.digit_table.Reads as digit-table-reads
-use Rattle.lines.proofs.stream.step.Reads as step-reads
 
 abbrev Inv-loop : tie.InvT-loop
 Inv-loop a₀ input out₀ table fed₀ a out fed =
@@ -25,7 +22,6 @@ Inv-loop a₀ input out₀ table fed₀ a out fed =
 abbrev μ-loop : tie.MeasureT-loop
 μ-loop a₀ input out₀ table fed₀ a out fed = length input - fed .read
 
--- src/stream.rt:121:17
 -- What is known at the loop's head, of the state that the arena held at first.
 reached : (l : tie.At-loop Inv-loop μ-loop)
     → let s = l .before .before .before .before .before in
@@ -35,62 +31,49 @@ reached l = l .loop .inv .2 (l .before .before .before .before .before .pre .0) 
 digit-table-requires : tie.Need-digit-table-requires Inv-loop μ-loop
 digit-table-requires c κs = tt
 
--- src/stream.rt:128:5
 loop-holds : tie.Need-loop-holds Inv-loop μ-loop
 loop-holds c = (refl, refl, λ st f. begun _ _ _ _ _ f)
 
--- src/stream.rt:128:37
 add-if2 : tie.Need-add-if2 Inv-loop μ-loop
 add-if2 c = omega (arith, reached (c .before .before .before) .fits)
 
--- src/stream.rt:130:36
 shared-slice-read-step : tie.Need-shared-slice-read-step Inv-loop μ-loop
 shared-slice-read-step c = omega arith
 
--- src/stream.rt:130:9
 step-requires : tie.Need-step-requires Inv-loop μ-loop
 step-requires c κs =
     let l = c .before .before .before .before .before .before .before .before in
     (l .before .digit-table .ensures, (_, reached l .formed), omega (arith, leb-true), omega arith)
 
--- src/stream.rt:128:5
 loop-less : tie.Need-loop-less Inv-loop μ-loop
 loop-less c =
     let l = c .before .before .before .before .before .before .before .before .before .before .before .before .before in
     omega (arith, ap (λ (f : Fed). f .read) (c .before .before .before .before .step .ensures _ (reached l .formed) .returned))
 
--- src/stream.rt:128:5
 loop-again : tie.Need-loop-again Inv-loop μ-loop
 loop-again c =
     let k = c .before .before .before .before in
-    let l = c .before .before .before .before .before .before .before .before .before .before .before .before .before in
-    (
+    let l = c .before .before .before .before .before .before .before .before .before .before .before .before .before in (
       k .step .kept .1 .0 ∙ l .loop .inv .0,
       k .step .kept .1 .1 .1 .1 .0 ∙ l .loop .inv .1,
       λ st f. turn _ _ _ _ st (l .loop .inv .2 st f) (omega arith) (omega (arith, leb-true)) (k .step .ensures _ (l .loop .inv .2 st f .formed)),
     )
 
--- src/stream.rt:115:1
 same-length : tie.Need-same-length Inv-loop μ-loop
 same-length c = c .before .before .before .before .loop .inv .0
 
--- src/stream.rt:115:1
 same-length-2 : tie.Need-same-length-2 Inv-loop μ-loop
 same-length-2 c = c .before .before .before .before .loop .inv .1
 
--- src/stream.rt:115:1
 returns : tie.Need-returns Inv-loop μ-loop
 returns c st f = let l = c .before .before .before .before in over-now _ _ _ _ st (l .loop .inv .2 st f) (no-room _ (l .loop .fed .written) _ (omega (arith, leb-false)))
 
--- src/stream.rt:115:1
 same-length-3 : tie.Need-same-length-3 Inv-loop μ-loop
 same-length-3 c = c .before .before .loop .inv .0
 
--- src/stream.rt:115:1
 same-length-4 : tie.Need-same-length-4 Inv-loop μ-loop
 same-length-4 c = c .before .before .loop .inv .1
 
--- src/stream.rt:115:1
 returns-2 : tie.Need-returns-2 Inv-loop μ-loop
 returns-2 c st f = let l = c .before .before in over-now _ _ _ _ st (l .loop .inv .2 st f) (no-byte _ (l .loop .fed .read) _ (omega arith))
 

@@ -1,39 +1,28 @@
-use mathlib.Core.Path.{sym, _∙_, ap}
+-- `lines::stream::step` meets its contract: a newline answers the line, and any other byte makes it longer.
+-- Assumes nothing.
 use borrow.Author.Needs.{needs}
 use Rattle.lines.proofs.Taken.{step-ended, step-longer}
 use Rattle.lines.proofs.stream.step.Statement.{statement}
 use Rattle.lines.proofs.stream.step.Tie as tie
-use Rattle.lines.proofs.stream.step.Reads as reads
-use Rattle.lines.proofs.stream.step.Lts as lts
-use Rattle.lines.proofs.stream.answer.Reads as answer-reads
-use Rattle.lines.proofs.stream.longer.Reads as longer-reads
-use Rattle.lines.proofs.stream.no_line.Reads as no-line-reads
 
--- src/stream.rt:98:9
 answer-requires : tie.Need-answer-requires
 answer-requires c κs = search needs
 
--- src/stream.rt:101:22
 no-line-requires : tie.Need-no-line-requires
 no-line-requires c κs = search needs
 
--- src/stream.rt:102:19
 add-t15 : tie.Need-add-t15
 add-t15 c = search needs
 
--- src/stream.rt:103:22
 add-t16 : tie.Need-add-t16
 add-t16 c = search needs
 
--- src/stream.rt:99:9
 same-length : tie.Need-same-length
 same-length c = search needs
 
--- src/stream.rt:99:9
 same-length-2 : tie.Need-same-length-2
 same-length-2 c = search needs
 
--- src/stream.rt:99:9
 returns : tie.Need-returns
 returns c st f =
     let answered = c .before .before .before .before .before .before in
@@ -41,15 +30,12 @@ returns c st f =
     let given = t .before .before .before .before .args in
     step-ended (given .fed) (given .b) (t .if1 .taken) (c .before .no-line .ensures) (answered .answer .ensures st f)
 
--- src/stream.rt:108:18
 longer-requires : tie.Need-longer-requires
 longer-requires c κs = search needs
 
--- src/stream.rt:109:15
 add-t18 : tie.Need-add-t18
 add-t18 c = search needs
 
--- src/stream.rt:90:1
 returns-2 : tie.Need-returns-2
 returns-2 c st f =
     let e = c .before .before in

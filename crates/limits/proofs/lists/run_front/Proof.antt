@@ -1,0 +1,41 @@
+-- `limits::lists::run_front` is safe and ends. Assumes nothing.
+use mathlib.Core.Path.{sym}
+use native.Mathlib.Omega.{arith}
+use lib.Seq.{length-take-le}
+use lib.ListN.{length}
+use borrow.Author.Needs.{needs}
+use Rattle.limits.proofs.lists.run_front.Statement.{statement}
+use Rattle.limits.proofs.lists.run_front.Tie as tie
+
+slice-aggregate-run : tie.Need-slice-aggregate-run
+slice-aggregate-run c = sym (length-take-le _ _ (omega arith))
+
+slice-relend-prefix-run : tie.Need-slice-relend-prefix-run
+slice-relend-prefix-run c = search needs
+
+slice-aggregate-run-2 : tie.Need-slice-aggregate-run-2
+slice-aggregate-run-2 c = sym (length-take-le _ _ (omega arith))
+
+run-requires : tie.Need-run-requires
+run-requires c κs = search needs
+
+same-length : tie.Need-same-length
+same-length c = search needs
+
+same-length-2 : tie.Need-same-length-2
+same-length-2 c = search needs
+
+returns : tie.Need-returns
+returns c = search needs
+
+pub run-front-spec : {M : Type 1} → statement M
+run-front-spec =
+    tie.close
+    (tie.spec
+    slice-aggregate-run
+    slice-relend-prefix-run
+    slice-aggregate-run-2
+    run-requires
+    same-length
+    same-length-2
+    returns)

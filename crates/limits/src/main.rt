@@ -1,0 +1,23 @@
+// The limits of document 01, run through the public calls of the map: sizes and lengths at their ends, damaged arenas, lists and answer
+// rooms that are a word off, the order of the refusals, a run of many commands. Each case writes one line: what was tried, the code that
+// came back, and whether every word that was lent is as it should be, WRONG where one is not.
+mod damage;
+mod large;
+mod links;
+mod lists;
+mod long;
+mod making;
+mod middle;
+mod say;
+mod tree;
+mod words;
+
+fn main() {
+    making::cases();
+    links::cases();
+    damage::cases();
+    large::cases();
+    lists::cases();
+    middle::case();
+    long::case();
+}
