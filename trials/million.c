@@ -1,12 +1,19 @@
 /* One run of a million commands, called from a thread with 256 KiB of stack. Each answer's code, key and value is compared with what a table
    of the live keys says, and the words behind arena and answers are seen to stay. Says what it did, and ends with 1 where a word is wrong. */
-#include <pthread.h>
-#include <stdint.h>
-#include <stdio.h>
-#include <stdlib.h>
+/* The kit's compiler brings no header files, so what is used of the C library is declared here, as it is on x86-64. */
+typedef unsigned int uint32_t;
+typedef unsigned long uint64_t, size_t, pthread_t;
+typedef union { char bytes[56]; long align; } pthread_attr_t;
+int printf(const char *, ...);
+void exit(int);
+int pthread_attr_init(pthread_attr_t *);
+int pthread_attr_setstacksize(pthread_attr_t *, size_t);
+int pthread_create(pthread_t *, const pthread_attr_t *, void *(*)(void *), void *);
+int pthread_join(pthread_t, void **);
 
 enum { SLOTS = 4095, KEYS = 8000, COMMANDS = 1000000, BEHIND = 8, STACK = 256 * 1024 };
 #define FILL 0xa5a5a5a5u
+#define TRIAL "one run of %d commands in %d bytes of stack"
 
 uint32_t mingdholep_make(uint32_t *arena, size_t words, uint32_t slots);
 uint32_t mingdholep_run(uint32_t *arena, size_t words, const uint32_t *list, size_t list_words, uint32_t *answers, size_t answer_words);
@@ -27,7 +34,7 @@ static void *call(void *unused) {
 }
 
 static void wrong(const char *what, size_t at) {
-    printf("WRONG: %s %zu\n", what, at);
+    printf(TRIAL ": WRONG, %s %zu\n", COMMANDS, STACK, what, at);
     exit(1);
 }
 
@@ -75,13 +82,13 @@ int main(void) {
     write_list();
     if (mingdholep_make(arena, sizeof arena / 4, SLOTS) != 0) wrong("making", 0);
     if (pthread_attr_init(&attributes) != 0 || pthread_attr_setstacksize(&attributes, STACK) != 0) wrong("stack", STACK);
-    if (pthread_create(&thread, &attributes, call, NULL) != 0 || pthread_join(thread, NULL) != 0) wrong("thread", 0);
+    if (pthread_create(&thread, &attributes, call, 0) != 0 || pthread_join(thread, 0) != 0) wrong("thread", 0);
     if (returned != 0) wrong("run returned", returned);
     compare_all();
     for (size_t i = 4 + 4 * SLOTS; i < sizeof arena / 4; i++)
         if (arena[i] != FILL) wrong("word behind the arena", i);
     for (size_t i = 4 * COMMANDS; i < sizeof answers / 4; i++)
         if (answers[i] != FILL) wrong("word behind the answers", i);
-    printf("one run of %d commands in %d bytes of stack: every answer right\n", COMMANDS, STACK);
+    printf(TRIAL ": right\n", COMMANDS, STACK);
     return 0;
 }
