@@ -13,7 +13,7 @@ ghost use Rattle.rules.specs.Tree.{Tree};
 ghost use mathlib.Core.Option.{none as nil};
 ghost use Rattle.rules.specs.Perform.{State, neighbour, outer, outermost};
 ghost use Rattle.rules.specs.Arena.{WellFormed};
-ghost use Rattle.node.specs.Stands.{side-of, Sided, Stands};
+ghost use Rattle.node.specs.Stands.{off, side-of, Sided, Stands};
 ghost use Rattle.commands.specs.Did.{Formed, Did};
 ghost use Rattle.commands.specs.Sought.{Leads-or, Sought-in};
 
@@ -73,9 +73,9 @@ pub fn neighbour(a: &mut [u32], key: u32, p: usize, q: usize) -> Answer
 }
 
 // The link to the first node in order where p is 2, to the last where p is 3; 0 where there is none.
-fn outermost(a: &[u32], root: u32, p: usize, q: usize) -> u32
+fn outermost(a: &[u32], root: u32, p: usize) -> u32
     requires { ⌜ ((t : Tree ℕ) × Stands tags (now a) root t) ⌝ }
-    requires { ⌜ Sided p q ⌝ }
+    requires { ⌜ p ≡ off (side-of p) ⌝ }
     ensures { λ r. ⌜ ((t : Tree ℕ) → Stands tags (now (a .entry)) root t →
         Leads-or (now (a .entry)) r (outermost (side-of p) t nil)) ⌝ }
 {
@@ -89,13 +89,13 @@ fn outermost(a: &[u32], root: u32, p: usize, q: usize) -> u32
 }
 
 // 7 min, where p is 2; 8 max, where p is 3.
-pub fn outer(a: &[u32], p: usize, q: usize) -> Answer
+pub fn outer(a: &[u32], p: usize) -> Answer
     requires { ⌜ Formed (now a) ⌝ }
-    requires { ⌜ Sided p q ⌝ }
+    requires { ⌜ p ≡ off (side-of p) ⌝ }
     ensures { λ r. ⌜ ((st : State ℕ) → WellFormed tags (now (a .entry)) st →
         Did (outer tags (side-of p) st) (now (a .entry)) (now (a .entry)) r) ⌝ }
 {
-    let x = outermost(a, a[1], p, q);
+    let x = outermost(a, a[1], p);
     if x == 0 {
         return bare(1, 0);
     }

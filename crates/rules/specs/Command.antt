@@ -10,12 +10,10 @@ pub data Command (K : Type 0) : Type 0 where
   min max take-first take-last clear len unknown : Command K
 
 module _ {K : Type 0} where
-  -- The table "No., Command". "Unused words are ignored." 0 and every number above 12 are unknown. The crate's `contains` and `find_key`
-  -- are get, and its `is_empty` is length 0.
-  abbrev pub command : ℕ → K → ℕ → Command K
-  command n k v =
-      getD
-      (unknown
+  -- The table "No., Command", from number 0 on. The crate's `contains` and `find_key` are get, and its `is_empty` is length 0.
+  abbrev pub numbered : K → ℕ → List (Command K)
+  numbered k v =
+      unknown
       ∷ get k
       ∷ write k v
       ∷ next k
@@ -28,9 +26,11 @@ module _ {K : Type 0} where
       ∷ take-last
       ∷ clear
       ∷ len
-      ∷ [])
-      n
-      unknown
+      ∷ []
+
+  -- "Unused words are ignored." 0 and every number above 12 are unknown.
+  abbrev pub command : ℕ → K → ℕ → Command K
+  command n k v = getD (numbered k v) n unknown
 
 -- The codes: 0 to 7 of answers, 10 to 14 with which whole calls refuse, and 15 the line program's.
 pub data Code : Type 0 where

@@ -13,10 +13,10 @@ use Rattle.commands.proofs.neighbours.outermost.Statement.{statement}
 use Rattle.commands.proofs.neighbours.outermost.Tie as tie
 
 abbrev Inv-loop : tie.InvT-loop
-Inv-loop a root p q x₀ best₀ x best = Walk a (Ending (side-of p) (read-off a root)) x best
+Inv-loop a root p x₀ best₀ x best = Walk a (Ending (side-of p) (read-off a root)) x best
 
 abbrev μ-loop : tie.MeasureT-loop
-μ-loop a root p q x₀ best₀ x best = size (read-off a x)
+μ-loop a root p x₀ best₀ x best = size (read-off a x)
 
 loop-holds : tie.Need-loop-holds Inv-loop μ-loop
 loop-holds c = let s = c .before in let (t, h) = s .pre .0 in outermost-begin (side-of (s .args .p)) t h
@@ -25,7 +25,7 @@ word-requires : tie.Need-word-requires Inv-loop μ-loop
 word-requires c κs =
     let l = c .before in
     let s = l .before .before in
-    omega (arith, walk-in (l .loop .inv) (omega arith), off-low (side-of (s .args .p)), s .pre .1 .near)
+    omega (arith, walk-in (l .loop .inv) (omega arith), off-low (side-of (s .args .p)), s .pre .1)
 
 turn : (c : tie.After-word Inv-loop μ-loop) →
     (let l = c .before .before in
@@ -36,7 +36,7 @@ turn c =
     let l = c .before .before in
     let s = l .before .before in
     outermost-turn (l .loop .inv) (omega arith) (c .word .result)
-    (c .word .ensures ∙ ap (λ (j : ℕ). getD (s .args .a .now) (4 * l .loop .x + j) 0) (s .pre .1 .near))
+    (c .word .ensures ∙ ap (λ (j : ℕ). getD (s .args .a .now) (4 * l .loop .x + j) 0) (s .pre .1))
 
 loop-less : tie.Need-loop-less Inv-loop μ-loop
 loop-less c = turn c .1
