@@ -38,40 +38,68 @@ static void wrong(const char *what, size_t at) {
     exit(1);
 }
 
-/* Half gets, a quarter inserts, the rest removes, lengths and numbers that are no command. */
+/* All commands, gets and inserts most often, and two numbers that are no command. A clear is rare, so that the arena fills in between. */
 static void write_list(void) {
-    static const uint32_t numbers[16] = {1, 1, 1, 1, 1, 1, 1, 1, 5, 5, 5, 5, 6, 6, 12, 13};
+    static const uint32_t numbers[32] = {1, 1, 1, 1, 1, 1, 1, 2, 2, 3, 3, 3, 4, 4, 4, 5, 5, 5, 5, 5, 5, 5, 5, 6, 6, 7, 8, 9, 10, 12, 0, 13};
     for (size_t i = 0; i < COMMANDS; i++) {
-        list[3 * i] = numbers[next_random() % 16];
+        list[3 * i] = i % 50000 == 49999 ? 11 : numbers[next_random() % 32];
         list[3 * i + 1] = next_random() % KEYS;
         list[3 * i + 2] = next_random();
     }
 }
 
-/* The answer by document 01's rule on the live entries; the comparisons are not told. */
+static uint32_t value[KEYS], size, full;
+static char live[KEYS];
+
+/* The first live key from `from` on in the given direction, or -1. */
+static long nearest(long from, long step) {
+    while (from >= 0 && from < KEYS && !live[from]) from += step;
+    return from < KEYS ? from : -1;
+}
+
+/* The key whose entry the command is about, or -1: its own if it is live, the nearest above or below it, the first or the last. */
+static long entry_of(uint32_t number, uint32_t key) {
+    switch (number) {
+    case 3: return nearest((long)key + 1, 1);
+    case 4: return nearest((long)key - 1, -1);
+    case 7: case 9: return nearest(0, 1);
+    case 8: case 10: return nearest(KEYS - 1, -1);
+    default: return live[key] ? (long)key : -1;
+    }
+}
+
+/* One command on the table of live keys: the answer's code, key and value by document 01's tables. The comparisons are not told here. */
+static void answer_to(uint32_t number, uint32_t key, uint32_t given, uint32_t told[3]) {
+    long found = entry_of(number, key);
+    told[0] = 1, told[1] = 0, told[2] = 0;
+    if (number == 0 || number > 12) {
+        told[0] = 7;
+    } else if (number >= 11) {
+        told[0] = 6, told[2] = size;
+        for (size_t k = 0; number == 11 && k < KEYS; k++) live[k] = 0;
+        if (number == 11) size = 0;
+    } else if (found >= 0) {
+        told[0] = number == 2 || number == 5 ? 3 : number == 6 || number >= 9 ? 4 : 0;
+        told[1] = (uint32_t)found, told[2] = value[found];
+        if (told[0] == 3) value[found] = given;
+        if (told[0] == 4) live[found] = 0, size--;
+    } else if (number == 5 && size == SLOTS) {
+        told[0] = 5, full++;
+    } else if (number == 5) {
+        told[0] = 2, told[1] = key;
+        live[key] = 1, value[key] = given, size++;
+    }
+}
+
 static void compare_all(void) {
-    static uint32_t value[KEYS];
-    static char live[KEYS];
-    uint32_t size = 0;
     for (size_t i = 0; i < COMMANDS; i++) {
-        uint32_t number = list[3 * i], key = list[3 * i + 1], given = list[3 * i + 2];
-        const uint32_t *a = answers + 4 * i;
-        uint32_t code = 7, told = 0, old = 0;
-        if (number == 12) {
-            code = 6, old = size;
-        } else if (number != 13) {
-            code = number == 1 ? 0 : number == 5 ? 3 : 4;
-            if (live[key]) told = key, old = value[key];
-            else if (number != 5) code = 1;
-            else if (size == SLOTS) code = 5;
-            else code = 2, told = key;
-            if (code == 2) size++, live[key] = 1;
-            if (code == 2 || code == 3) value[key] = given;
-            if (code == 4) size--, live[key] = 0;
-        }
-        if (a[0] != code || a[1] != told || a[2] != old) wrong("answer", i);
+        uint32_t told[3];
+        answer_to(list[3 * i], list[3 * i + 1], list[3 * i + 2], told);
+        for (size_t j = 0; j < 3; j++)
+            if (answers[4 * i + j] != told[j]) wrong("answer", i);
     }
     if (arena[2] != size) wrong("size", arena[2]);
+    if (full == 0) wrong("times full", full);
 }
 
 int main(void) {

@@ -1,11 +1,10 @@
 // The limits of document 01, run through the public calls of the map: sizes and lengths at their ends, damaged arenas, lists and answer
-// rooms that are a word off, the order of the refusals, a run of many commands. Each case writes one line: what was tried, the code that
-// came back, and whether every word that was lent is as it should be, WRONG where one is not.
+// rooms that are a word off, the order of the refusals. Each case writes one line: what was tried, the code that came back, and whether
+// every word that was lent is as it should be, WRONG where one is not.
 mod damage;
 mod large;
 mod links;
 mod lists;
-mod long;
 mod making;
 mod middle;
 mod say;
@@ -19,5 +18,4 @@ fn main() {
     large::cases();
     lists::cases();
     middle::case();
-    long::case();
 }
