@@ -64,7 +64,7 @@ same-state (then {l} {m} {ls} {ms} h r) st = rw (same-command h) (same-state r (
 abbrev pub Sized : Pending → Type 0
 Sized p = length (p .bytes) ≡ 24
 
-longer-sized : (p : Pending) (b : ℕ) → Sized p → Sized (longer p b)
+pub longer-sized : (p : Pending) (b : ℕ) → Sized p → Sized (longer p b)
 unfolding longer
 longer-sized p b h = by (ltb (p .len) 24)
   where
@@ -74,7 +74,7 @@ longer-sized p b h = by (ltb (p .len) 24)
     by false = h
 
 -- A line with one byte more, as it was kept.
-kept-longer : (p : Pending) (b : ℕ) → Sized p → Alike (so-far (longer p b)) (so-far p ++ (b ∷ []))
+pub kept-longer : (p : Pending) (b : ℕ) → Sized p → Alike (so-far (longer p b)) (so-far p ++ (b ∷ []))
 unfolding longer so-far
 kept-longer p b h = by (ltb (p .len) 24) refl
   where

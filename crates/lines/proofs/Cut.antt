@@ -22,6 +22,7 @@ use Rattle.rules.proofs.Words.{over-formed, over-over}
 use Rattle.lines.specs.declared.stream.Pending.{Pending}
 use Rattle.lines.specs.Stream.{no-line, held, ended, state-after, taking, After, fed-with, feeding, Feeds, closing}
 use Rattle.lines.proofs.Pieces.{held-append, ended-append, state-append, respond-append, state-slots, state-sound}
+use Rattle.lines.proofs.Took.{Took, both}
 use Rattle.lines.proofs.Alike.{same-answers, same-state, no-line-alike, whole-lines}
 
 -- Calls of feed one after the other on one arena, each with an input and a buffer of its own: from a line that is not ended and the
@@ -31,13 +32,6 @@ pub data Calls : Pending → List ℕ → List ℕ → List ℕ → Pending → 
   call : {p p′ : Pending} {w w′ taken written : List ℕ} (input out : List ℕ) (given : After) → Feeds p input out w given
       → Calls (given .returned .pending) (given .arena) taken written p′ w′
       → Calls p w (take (given .returned .read) input ++ taken) (take (given .returned .written) (given .out) ++ written) p′ w′
-
--- What bytes that were taken leave, from a line p, the words w and their state st.
-pub record Took (p : Pending) (w : List ℕ) (st : State ℕ) (taken written : List ℕ) (p′ : Pending) (w′ : List ℕ) : Type 0 where
-  pub line : p′ ≡ held p taken
-  pub bytes : written ≡ respond tags (ended p taken) st
-  pub words : w′ ≡ over tags (state-after (ended p taken) st) w
-  pub formed : WellFormed tags w′ (state-after (ended p taken) st)
 
 -- A well-formed arena is served.
 served : (p : Pending) (input out : List ℕ) {w : List ℕ} {given : After} {st : State ℕ} → WellFormed tags w st → Feeds p input out w given
@@ -62,23 +56,6 @@ one-call p input out w st f =
 one-took : (p : Pending) (input out : List ℕ) {w : List ℕ} {given : After} {st : State ℕ} → WellFormed tags w st → Feeds p input out w given
     → Took p w st (take (given .returned .read) input) (take (given .returned .written) (given .out)) (given .returned .pending) (given .arena)
 one-took p input out {w} {st = st} f g = rw (served p input out f g) (one-call p input out w st f)
-
--- Two runs of calls are one.
-both : {p q r : Pending} {w v u xs ys written more : List ℕ} {st : State ℕ} → Took p w st xs written q v
-    → Took q v (state-after (ended p xs) st) ys more r u → Took p w st (xs ++ ys) (written ++ more) r u
-both {p} {r = r} {w = w} {v = v} {u = u} {xs = xs} {ys = ys} {more = more} {st = st} s t =
-    let mid = state-after (ended p xs) st in
-    let t′ : Took (held p xs) v mid ys more r u = rw (s .line) at t in
-    let now = ended (held p xs) ys in
-    record {
-      line = t′ .line ∙ sym (held-append p xs ys);
-      bytes = rw (s .bytes, t′ .bytes, ended-append p xs ys) (sym (respond-append (ended p xs) now st));
-      words = t′ .words
-          ∙ ap (over tags (state-after now mid)) (s .words)
-          ∙ over-over tags tags-lawful mid (state-after now mid) w (sym (state-slots now mid))
-          ∙ rw (ended-append p xs ys, state-append (ended p xs) now st);
-      formed = rw (ended-append p xs ys, state-append (ended p xs) now st) (t′ .formed);
-    }
 
 pub calls-took : {p p′ : Pending} {w w′ taken written : List ℕ} {st : State ℕ} → Calls p w taken written p′ w′ → WellFormed tags w st
     → Took p w st taken written p′ w′

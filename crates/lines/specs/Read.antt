@@ -9,7 +9,7 @@ use Rattle.rules.specs.Order.{choose}
 use Rattle.rules.specs.Edition.{tags}
 use Rattle.rules.specs.Command.{command, command-size}
 use Rattle.rules.specs.Command as rules
-use Rattle.rules.specs.Lines.{digit, digits, number-from, words-from, line-command}
+use Rattle.rules.specs.Lines.{digit, byte-of, digits, number-from, words-from, line-command}
 use Rattle.lines.specs.declared.Line.{Line}
 use Rattle.lines.specs.declared.Line.the-variants as line
 use Rattle.lines.specs.declared.Word.{Word}
@@ -23,6 +23,10 @@ coded (some d) = d
 -- A table that has for each byte the code of its digit.
 pub record Digit-table (t : List ℕ) : Type 0 where
   pub entry : (b : ℕ) → b < 256 → getD t b 0 ≡ coded (digit b)
+
+-- A table that has for each digit its byte.
+pub record Byte-table (t : List ℕ) : Type 0 where
+  pub entry : (d : ℕ) → d < 16 → getD t d 0 ≡ byte-of d
 
 -- The word that digits spell after a number that was read before them.
 abbrev pub word-from : ℕ → Option (List ℕ) → Word

@@ -2,13 +2,15 @@
 -- to remember.
 use mathlib.Core.List.{List, [], _∷_, _++_}
 use mathlib.Core.Bool.{true, false}
+use mathlib.Core.Option.{Option, none as nil}
 use mathlib.Core.Path.{_≡_}
-use Prim.Native.Nat.{ℕ, suc, _+_, _-_}
+use Prim.Native.Nat.{ℕ, suc, _+_, _-_, _≤_}
 use lib.Dec.{eqb, leb, ltb}
-use lib.ListN.{length, take, drop, set, replicate}
+use lib.ListN.{length, take, drop, set, getD, replicate}
 use lib.Seq.{sets}
 use Rattle.rules.specs.Order.{choose}
 use Rattle.rules.specs.Edition.{tags}
+use Rattle.rules.specs.Command.{Command}
 use Rattle.rules.specs.Perform.{State}
 use Rattle.rules.specs.Arena.{WellFormed, over}
 use Rattle.rules.specs.Calls.{Checked}
@@ -93,15 +95,27 @@ pub record Answered (line : List ℕ) (st : State ℕ) (w out : List ℕ) (at : 
   pub formed : WellFormed tags w′ (line-outcome tags (line-command tags line) st .state)
   pub bytes : out′ ≡ sets out at (answer-line tags (line-outcome tags (line-command tags line) st .answer))
 
--- One byte was taken.
-pub record Stepped (st : State ℕ) (w : List ℕ) (fed : Fed) (b : ℕ) (out w′ out′ : List ℕ) (fed′ : Fed) : Type 0 where
+-- The command of a line that stands whole at the front of the bytes, with its newline.
+unfoldable pub front : List ℕ → Option (Command ℕ)
+front bytes =
+    choose (leb 25 (length bytes)) (choose (eqb (getD bytes 24 0) newline) (line-command tags (take 24 bytes)) nil) nil
+
+-- The bytes of the input from place n up to m.
+abbrev pub between : ℕ → ℕ → List ℕ → List ℕ
+between n m input = take (m - n) (drop n input)
+
+-- So many bytes were taken, their lines answered behind what was written before, and no byte was taken without room for an answer.
+pub record Stepped (st : State ℕ) (w : List ℕ) (fed : Fed) (bytes out w′ out′ : List ℕ) (fed′ : Fed) : Type 0 where
   pub returned : fed′
       ≡ record {
         ok = true;
-        pending = held (fed .pending) (b ∷ []);
-        read = fed .read + 1;
-        written = fed .written + length (respond tags (ended (fed .pending) (b ∷ [])) st);
+        pending = held (fed .pending) bytes;
+        read = fed .read + length bytes;
+        written = fed .written + length (respond tags (ended (fed .pending) bytes) st);
       }
-  pub words : w′ ≡ over tags (state-after (ended (fed .pending) (b ∷ [])) st) w
-  pub formed : WellFormed tags w′ (state-after (ended (fed .pending) (b ∷ [])) st)
-  pub bytes : out′ ≡ sets out (fed .written) (respond tags (ended (fed .pending) (b ∷ [])) st)
+  pub words : w′ ≡ over tags (state-after (ended (fed .pending) bytes) st) w
+  pub formed : WellFormed tags w′ (state-after (ended (fed .pending) bytes) st)
+  pub wrote : out′ ≡ sets out (fed .written) (respond tags (ended (fed .pending) bytes) st)
+  pub fits : fed′ .written ≤ length out
+  pub going : (more : List ℕ)
+      → taking (length out - fed .written) (bytes ++ more) ≡ length bytes + taking (length out - fed′ .written) more

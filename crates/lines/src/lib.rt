@@ -6,7 +6,7 @@ ghost use Prim.Native.Nat.{_+_, _<_, _≤_};
 ghost use lib.ListN.{length, take, drop};
 ghost use lib.Seq.{sets};
 ghost use Rattle.rules.specs.Lines.{digit, digits, byte-of, spelled, all-spelled, newline};
-ghost use Rattle.lines.specs.Read.{coded, Digit-table, word-from, Reads};
+ghost use Rattle.lines.specs.Read.{coded, Digit-table, Byte-table, word-from, Reads};
 
 pub mod stream;
 mod tables;
@@ -98,24 +98,31 @@ pub fn read_line(line: &[u8]) -> Line
     read_with(&table, line)
 }
 
-// The byte of a digit.
-fn byte_of(d: u32) -> u8
-    requires { ⌜ d < 16 ⌝ }
+// The table of the digits' bytes.
+fn byte_table() -> [u8; 16]
+    ensures { λ r. ⌜ Byte-table r ⌝ }
+{
+    BYTES
+}
+
+// The byte of a digit. The table is lent, as that for reading is.
+fn byte_in(table: &[u8; 16], d: u32) -> u8
+    requires { ⌜ Byte-table (now table) × (d < 16) ⌝ }
     ensures { λ r. ⌜ r ≡ byte-of d ⌝ }
 {
-    BYTES[d as usize]
+    table[d as usize]
 }
 
 // Writes the eight digits of a word, the low one first, at the right end. Nothing else here writes digits.
-fn spell_word(out: &mut [u8], at: usize, w: u32)
-    requires { ⌜ at + 8 ≤ length (now out) ⌝ }
+fn spell_word(table: &[u8; 16], out: &mut [u8], at: usize, w: u32)
+    requires { ⌜ Byte-table (now table) × (at + 8 ≤ length (now out)) ⌝ }
     ensures { λ _. ⌜ now (out .exit) ≡ sets (now (out .entry)) at (spelled 8 w) ⌝ }
 {
     let mut rest = w;
     let mut i: usize = 0;
     while i < 8 {
         let place = 7 - i;
-        out[at + place] = byte_of(rest % 16);
+        out[at + place] = byte_in(table, rest % 16);
         rest = rest / 16;
         i += 1;
     }
@@ -127,9 +134,10 @@ pub fn write_answer(out: &mut [u8], at: usize, code: u32, key: u32, value: u32, 
     ensures { λ _. ⌜ now (out .exit)
         ≡ sets (now (out .entry)) at (all-spelled (code ∷ key ∷ value ∷ count ∷ []) ++ (newline ∷ [])) ⌝ }
 {
-    spell_word(out, at, code);
-    spell_word(out, at + 8, key);
-    spell_word(out, at + 16, value);
-    spell_word(out, at + 24, count);
+    let table = byte_table();
+    spell_word(&table, out, at, code);
+    spell_word(&table, out, at + 8, key);
+    spell_word(&table, out, at + 16, value);
+    spell_word(&table, out, at + 24, count);
     out[at + 32] = NEWLINE;
 }

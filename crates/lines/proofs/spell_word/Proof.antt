@@ -12,11 +12,11 @@ use Rattle.lines.proofs.spell_word.Statement.{statement}
 use Rattle.lines.proofs.spell_word.Tie as tie
 
 abbrev Inv-loop : tie.InvT-loop
-Inv-loop out₀ at w rest₀ i₀ out rest i =
+Inv-loop table out₀ at w rest₀ i₀ out rest i =
     (i ≤ 8) × (length out ≡ length out₀) × (sets out at (spelled (8 - i) rest) ≡ sets out₀ at (spelled 8 w))
 
 abbrev μ-loop : tie.MeasureT-loop
-μ-loop out₀ at w rest₀ i₀ out rest i = 8 - i
+μ-loop table out₀ at w rest₀ i₀ out rest i = 8 - i
 
 loop-holds : tie.Need-loop-holds Inv-loop μ-loop
 loop-holds c = (omega arith, refl, refl)
@@ -24,8 +24,8 @@ loop-holds c = (omega arith, refl, refl)
 sub-place : tie.Need-sub-place Inv-loop μ-loop
 sub-place c = search needs
 
-byte-of-requires : tie.Need-byte-of-requires Inv-loop μ-loop
-byte-of-requires c κs = search needs
+byte-in-requires : tie.Need-byte-in-requires Inv-loop μ-loop
+byte-in-requires c κs = search needs
 
 add-out : tie.Need-add-out Inv-loop μ-loop
 add-out c = search needs
@@ -49,7 +49,7 @@ loop-again c =
     let left : suc (7 - i) ≡ 8 - i = omega arith in (
       omega arith,
       length-set out _ _ ∙ c .before .before .loop .inv .1,
-      rw (fewer, c .byte-of .ensures)
+      rw (fewer, c .byte-in .ensures)
           (spelled-turn out at (7 - i) rest ∙ ap (λ (n : ℕ). sets out at (spelled n rest)) left ∙ c .before .before .loop .inv .2),
     )
 
@@ -70,7 +70,7 @@ spell-word-spec =
     μ-loop
     loop-holds
     sub-place
-    byte-of-requires
+    byte-in-requires
     add-out
     slice-write-out
     add-i

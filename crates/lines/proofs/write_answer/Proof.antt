@@ -9,6 +9,9 @@ use Rattle.lines.proofs.Spelled.{line-put}
 use Rattle.lines.proofs.write_answer.Statement.{statement}
 use Rattle.lines.proofs.write_answer.Tie as tie
 
+byte-table-requires : tie.Need-byte-table-requires
+byte-table-requires c κs = search needs
+
 spell-word-requires : tie.Need-spell-word-requires
 spell-word-requires c κs = search needs
 
@@ -40,10 +43,10 @@ slice-write-out c = search needs
 returns : tie.Need-returns
 returns c =
     let fourth = c .before .before in
-    let third = fourth .before .before .before .before in
-    let second = third .before .before .before .before in
-    let first = second .before .before .before .before in
-    let given = first .before .before .before .args in
+    let third = fourth .before .before .before .before .before in
+    let second = third .before .before .before .before .before in
+    let first = second .before .before .before .before .before in
+    let given = first .before .before .before .before .before .args in
     rw (
       fourth .spell-word4 .ensures,
       third .spell-word3 .ensures,
@@ -59,6 +62,7 @@ pub write-answer-spec : {M : Type 1} → statement M
 write-answer-spec =
     tie.close
     (tie.spec
+    byte-table-requires
     spell-word-requires
     add-spell-word
     spell-word-requires-2

@@ -3,7 +3,7 @@
 use mathlib.Core.Path.{sym, _∙_, ap}
 use borrow.Author.Needs.{needs}
 use Rattle.lines.specs.Read.{meant}
-use Rattle.lines.proofs.Ended.{answered-bad, answered-by}
+use Rattle.lines.proofs.Ended.{answered-bad}
 use Rattle.lines.proofs.stream.answer.Statement.{statement}
 use Rattle.lines.proofs.stream.answer.Tie as tie
 
@@ -28,11 +28,8 @@ returns c st f =
     answered-bad _ (sym (s .said .ensures) ∙ ap meant (c .before .before .before .before .enum-told .given .1)) f
     (c .before .before .write-answer .ensures)
 
-command-requires : tie.Need-command-requires
-command-requires c κs = search needs
-
-write-answer-requires-2 : tie.Need-write-answer-requires-2
-write-answer-requires-2 c κs = search needs
+obey-requires : tie.Need-obey-requires
+obey-requires c κs = search needs
 
 same-length-2 : tie.Need-same-length-2
 same-length-2 c = search needs
@@ -42,12 +39,9 @@ same-length-3 c = search needs
 
 returns-2 : tie.Need-returns-2
 returns-2 c st f =
-    let w = c .before .before in
-    let d = w .before .before .before .before in
-    let n = d .before .before .before in
-    answered-by _ (n .number .given .0 .0) (n .number .given .0 .1 .0) (n .number .given .0 .1 .1 .0)
-    (sym (n .before .before .said .ensures) ∙ ap meant (n .number .given .1)) (d .command .ensures st f)
-    (w .write-answer2 .ensures)
+    let o = c .before .before .before .before in
+    let n = o .before .before .before .before in
+    o .obey .ensures _ st (sym (n .before .before .said .ensures) ∙ ap meant (n .number .given .1)) f
 
 pub answer-spec : {M : Type 1} → statement M
 answer-spec =
@@ -59,8 +53,7 @@ answer-spec =
     write-answer-requires
     same-length
     returns
-    command-requires
-    write-answer-requires-2
+    obey-requires
     same-length-2
     same-length-3
     returns-2)

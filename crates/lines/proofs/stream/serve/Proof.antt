@@ -4,12 +4,13 @@ use mathlib.Core.Path.{_≡_, refl, _∙_, ap}
 use Prim.Native.Nat.{ℕ, _-_}
 use native.Mathlib.Omega.{arith}
 use lib.ListN.{length}
+use borrow.Author.Needs.{needs}
 use borrow.Author.Tests.{leb-true, leb-false}
 use Rattle.rules.specs.Edition.{tags}
 use Rattle.rules.specs.Perform.{State}
 use Rattle.rules.specs.Arena.{WellFormed}
 use Rattle.lines.specs.declared.stream.Fed.{Fed}
-use Rattle.lines.proofs.Reached.{Reached, begun, turn, over-now, no-byte, no-room}
+use Rattle.lines.proofs.Onward.{Reached, begun, reach, over-now, no-byte, no-room}
 use Rattle.lines.proofs.stream.serve.Statement.{statement}
 use Rattle.lines.proofs.stream.serve.Tie as tie
 
@@ -35,28 +36,23 @@ loop-holds : tie.Need-loop-holds Inv-loop μ-loop
 loop-holds c = (refl, refl, λ st f. begun _ _ _ _ _ f)
 
 add-if2 : tie.Need-add-if2 Inv-loop μ-loop
-add-if2 c = omega (arith, reached (c .before .before .before) .fits)
+add-if2 c = omega (arith, reached (c .before .before .before) .so .fits)
 
-shared-slice-read-step : tie.Need-shared-slice-read-step Inv-loop μ-loop
-shared-slice-read-step c = omega arith
-
-step-requires : tie.Need-step-requires Inv-loop μ-loop
-step-requires c κs =
-    let l = c .before .before .before .before .before .before .before .before in
-    (l .before .digit-table .ensures, (_, reached l .formed), omega (arith, leb-true), omega arith)
+advance-requires : tie.Need-advance-requires Inv-loop μ-loop
+advance-requires c κs =
+    let l = c .before .before .before .before .before .before .before in
+    ((l .before .digit-table .ensures, (_, reached l .so .formed)), (omega arith, omega (arith, leb-true)))
 
 loop-less : tie.Need-loop-less Inv-loop μ-loop
-loop-less c =
-    let l = c .before .before .before .before .before .before .before .before .before .before .before .before .before in
-    omega (arith, ap (λ (f : Fed). f .read) (c .before .before .before .before .step .ensures _ (reached l .formed) .returned))
+loop-less c = omega (arith, c .before .before .before .before .advance .ensures .0)
 
 loop-again : tie.Need-loop-again Inv-loop μ-loop
 loop-again c =
-    let k = c .before .before .before .before in
-    let l = c .before .before .before .before .before .before .before .before .before .before .before .before .before in (
-      k .step .kept .1 .0 ∙ l .loop .inv .0,
-      k .step .kept .1 .1 .1 .1 .0 ∙ l .loop .inv .1,
-      λ st f. turn _ _ _ _ st (l .loop .inv .2 st f) (omega arith) (omega (arith, leb-true)) (k .step .ensures _ (l .loop .inv .2 st f .formed)),
+    let o = c .before .before .before .before in
+    let l = o .before .before .before .before .before .before .before .before in (
+      o .advance .kept .1 .0 ∙ l .loop .inv .0,
+      o .advance .kept .1 .1 .1 .1 .0 ∙ l .loop .inv .1,
+      λ st f. reach _ _ _ _ st (l .loop .inv .2 st f) (o .advance .ensures .1 _ (l .loop .inv .2 st f .so .formed)),
     )
 
 same-length : tie.Need-same-length Inv-loop μ-loop
@@ -86,8 +82,7 @@ serve-spec =
     digit-table-requires
     loop-holds
     add-if2
-    shared-slice-read-step
-    step-requires
+    advance-requires
     loop-less
     loop-again
     same-length

@@ -28,7 +28,7 @@ returns c st f =
     let answered = c .before .before .before .before .before .before in
     let t = answered .before .before .before in
     let given = t .before .before .before .before .args in
-    step-ended (given .fed) (given .b) (t .if1 .taken) (c .before .no-line .ensures) (answered .answer .ensures st f)
+    step-ended (given .fed) (given .b) (t .if1 .taken) (c .before .no-line .ensures) (search needs) (answered .answer .ensures st f)
 
 longer-requires : tie.Need-longer-requires
 longer-requires c κs = search needs
@@ -40,7 +40,7 @@ returns-2 : tie.Need-returns-2
 returns-2 c st f =
     let e = c .before .before in
     let given = e .before .before .before .before .args in
-    step-longer (given .out .now) (given .fed) (given .b) (e .if1 .left) (c .before .longer .ensures) f
+    step-longer (given .out .now) (given .fed) (given .b) (e .if1 .left) (c .before .longer .ensures) (search needs) f
 
 pub step-spec : {M : Type 1} → statement M
 step-spec =
