@@ -1,4 +1,5 @@
--- Answers as words, and what a step and the steps of a run leave. The set's steps are these with its reading.
+-- Answers as words, how a list is read, and what a step and the steps of a run leave.
+use mathlib.Core.Bool.{Bool, true, false}
 use mathlib.Core.List.{List, [], _∷_, _++_}
 use mathlib.Core.Path.{_≡_}
 use Prim.Native.Nat.{ℕ, _*_, _/_}
@@ -7,13 +8,18 @@ use Rattle.rules.specs.Edition.{tags}
 use Rattle.rules.specs.Command.{Command, answer-words}
 use Rattle.rules.specs.Perform.{State}
 use Rattle.rules.specs.Arena.{WellFormed, over}
-use Rattle.rules.specs.Reading.{Reading}
+use Rattle.rules.specs.Reading.{Reading, as-map, as-set}
 use Rattle.rules.specs.Calls.{perform-as, perform-all, commands-of, all-answers}
 use Rattle.commands.specs.declared.answer.Answer.{Answer}
 
 -- An answer's four words.
 abbrev pub four : Answer → List ℕ
 four r = r .code ∷ r .key ∷ r .value ∷ r .count ∷ []
+
+-- A list is read for keys alone, as the set reads it, or as the map does.
+abbrev pub reading : Bool → Reading
+reading true = as-set
+reading false = as-map
 
 -- One command is done, and its answer stands at the front of the lent words; those behind it stay.
 pub record Stepped (r : Reading) (c : Command ℕ) (st : State ℕ) (w w′ out out′ : List ℕ) : Type 0 where

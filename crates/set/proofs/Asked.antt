@@ -8,10 +8,10 @@ use Rattle.rules.specs.Reading.{as-set}
 use Rattle.rules.specs.Calls.{Replied, Checked, well-formed, damaged, perform-as, one-on, one-refused}
 use Rattle.commands.specs.declared.answer.Answer.{Answer}
 use Rattle.map.specs.Told.{four}
+use Rattle.map.proofs.Called.{words-say}
 use Rattle.set.specs.Asked.{was-of, Asks}
 use Rattle.set.specs.declared.Was.{Was}
 use Rattle.set.specs.declared.Was.the-variants as is
-use Rattle.set.proofs.Called.{words-say}
 
 pub past-five : (n : ℕ) → (n ≡ 0 → ⊥) → (n ≡ 1 → ⊥) → (n ≡ 2 → ⊥) → (n ≡ 3 → ⊥) → (n ≡ 4 → ⊥) → (n ≡ 5 → ⊥) → is.Refused ≡ was-of n
 past-five zero a b c d e f = absurd (a refl)

@@ -24,11 +24,11 @@ use Rattle.rules.proofs.Run.{perform-as-live}
 use Rattle.commands.specs.Did.{Says}
 use Rattle.commands.specs.declared.answer.Answer as machine
 use Rattle.map.specs.Told.{four}
+use Rattle.map.proofs.Called.{words-say}
 use Rattle.set.specs.Asked.{was-of, Asks, Told}
 use Rattle.set.specs.Members.{Among, Says-in, member, no-member, Says-stored, was-there, no-room, is-new}
 use Rattle.set.specs.declared.Was.{Was}
 use Rattle.set.specs.declared.Was.the-variants as is
-use Rattle.set.proofs.Called.{words-say}
 
 -- What looking for a key finds.
 data Found (k : ℕ) (l : List (Pair ℕ)) : Option (Pair ℕ) → Type 0 where

@@ -1,11 +1,12 @@
 -- `map::one` meets its contract.
-use mathlib.Core.Path.{_≡_, refl, sym, ap, _∙_}
-use native.Mathlib.Omega.{arith}
+use mathlib.Core.Path.{refl}
 use borrow.Author.Needs.{needs}
 use borrow.Author.Tests.{not-true, not-false}
-use Rattle.rules.specs.Calls.{Checked, well-formed, damaged}
+use Rattle.rules.specs.Command.{command}
+use Rattle.rules.specs.Calls.{well-formed, damaged}
 use Rattle.formed.proofs.Tells.{found, not-found}
 use Rattle.map.proofs.Called.{replied}
+use Rattle.map.proofs.Reading.{did-as-map}
 use Rattle.map.proofs.one.Statement.{statement}
 use Rattle.map.proofs.one.Tie as tie
 
@@ -33,7 +34,7 @@ returns-2 c =
     let k = r .before .before .before in
     let s = k .before .before .before in
     let (st, f) = found (k .check .ensures) (not-false _ (r .before .before .if1 .left)) in
-    well-formed st f (replied st (s .args .number) (s .args .key) (s .args .value) (r .command .ensures st f))
+    well-formed st f (replied _ _ _ (did-as-map (command (s .args .number) (s .args .key) (s .args .value)) st (r .command .ensures st f)))
 
 pub one-spec : {M : Type 1} → statement M
 one-spec = tie.close (tie.spec check-requires bare-requires same-length returns command-requires same-length-2 returns-2)

@@ -5,14 +5,14 @@ use Rattle.set.proofs.Called.{one-as-set}
 use Rattle.set.proofs.one.Statement.{statement}
 use Rattle.set.proofs.one.Tie as tie
 
-read-as-set-requires : tie.Need-read-as-set-requires
-read-as-set-requires c κs = search needs
+number-requires : tie.Need-number-requires
+number-requires c κs = search needs
 
 one-requires : tie.Need-one-requires
 one-requires c κs = search needs
 
-answer-as-set-requires : tie.Need-answer-as-set-requires
-answer-as-set-requires c κs = search needs
+answer-requires : tie.Need-answer-requires
+answer-requires c κs = search needs
 
 same-length : tie.Need-same-length
 same-length c = search needs
@@ -21,7 +21,7 @@ returns : tie.Need-returns
 returns c =
     let m = c .before .before .before in
     let s = m .before .before .before .before in
-    one-as-set (command (s .args .number) (s .args .key) (s .args .value)) _ (m .before .read-as-set .ensures (s .args .key) (s .args .value)) (c .answer-as-set .ensures) (m .one .ensures)
+    one-as-set (command (s .args .number) (s .args .key) (s .args .value)) _ (m .before .number .ensures (s .args .key) (s .args .value)) (c .answer .ensures) (m .one .ensures)
 
 pub one-spec : {M : Type 1} → statement M
-one-spec = tie.close (tie.spec read-as-set-requires one-requires answer-as-set-requires same-length returns)
+one-spec = tie.close (tie.spec number-requires one-requires answer-requires same-length returns)

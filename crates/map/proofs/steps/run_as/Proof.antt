@@ -1,14 +1,13 @@
--- `set::run` meets its contract.
+-- `map::steps::run_as` meets its contract.
 use mathlib.Core.Path.{refl}
 use borrow.Author.Needs.{needs}
 use borrow.Author.Tests.{not-true, not-false}
-use Rattle.rules.specs.Reading.{as-set}
 use Rattle.rules.specs.Calls.{well-formed, damaged}
 use Rattle.formed.proofs.Tells.{found, not-found}
 use Rattle.commands.specs.Did.{Formed}
 use Rattle.map.proofs.Running.{ran-ragged, ran-short, ran}
-use Rattle.set.proofs.run.Statement.{statement}
-use Rattle.set.proofs.run.Tie as tie
+use Rattle.map.proofs.steps.run_as.Statement.{statement}
+use Rattle.map.proofs.steps.run_as.Tie as tie
 
 check-requires : tie.Need-check-requires
 check-requires c κs = search needs
@@ -27,7 +26,7 @@ same-length-2 : tie.Need-same-length-2
 same-length-2 c = search needs
 
 returns-2 : tie.Need-returns-2
-returns-2 c = let (st, f) = sound (c .before) in well-formed st f (ran-ragged as-set _ _ _ st (c .if2 .taken))
+returns-2 c = let (st, f) = sound (c .before) in well-formed st f (ran-ragged _ _ _ _ st (c .if2 .taken))
 
 mul-if3 : tie.Need-mul-if3
 mul-if3 c = search needs
@@ -36,7 +35,7 @@ same-length-3 : tie.Need-same-length-3
 same-length-3 c = search needs
 
 returns-3 : tie.Need-returns-3
-returns-3 c = let (st, f) = sound (c .before .before) in well-formed st f (ran-short as-set _ _ _ st (c .before .if2 .left) (c .if3 .taken))
+returns-3 c = let (st, f) = sound (c .before .before) in well-formed st f (ran-short _ _ _ _ st (c .before .if2 .left) (c .if3 .taken))
 
 run-all-requires : tie.Need-run-all-requires
 run-all-requires c κs = let l = c .before .before in (sound (l .before .before), (l .before .if2 .left, l .if3 .left))
@@ -52,10 +51,10 @@ returns-4 c =
     let r = c .before .before .before .before in
     let l = r .before .before .before in
     let (st, f) = sound (l .before .before) in
-    well-formed st f (ran as-set _ _ _ st _ _ (l .before .if2 .left) (l .if3 .left) (r .run-all .ensures st f))
+    well-formed st f (ran _ _ _ _ st _ _ (l .before .if2 .left) (l .if3 .left) (r .run-all .ensures st f))
 
-pub run-spec : {M : Type 1} → statement M
-run-spec =
+pub run-as-spec : {M : Type 1} → statement M
+run-as-spec =
     tie.close
     (tie.spec
     check-requires

@@ -1,0 +1,14 @@
+-- `map::keys::number` meets its contract.
+use mathlib.Core.Path.{refl}
+use Rattle.map.proofs.Reading.{read-number}
+use Rattle.map.proofs.keys.number.Statement.{statement}
+use Rattle.map.proofs.keys.number.Tie as tie
+
+returns : tie.Need-returns
+returns c k v = rw (c .if1 .taken) refl
+
+returns-2 : tie.Need-returns-2
+returns-2 c = read-number (c .before .args .number) (c .if1 .left)
+
+pub number-spec : {M : Type 1} → statement M
+number-spec = tie.close (tie.spec returns returns-2)

@@ -1,0 +1,33 @@
+// How a set reads a command and words an answer. A key has no value there: an insert stores 0, an answer tells 0, and command 2, which
+// writes a value, is unknown.
+use commands::Answer;
+ghost use mathlib.Core.Path.{_≡_};
+ghost use Prim.Native.Nat.{ℕ};
+ghost use Rattle.rules.specs.Command as rules;
+ghost use Rattle.rules.specs.Reading.{as-set, read-as, answer-as};
+ghost use Rattle.commands.specs.Did.{Says};
+
+// The number by which the map does what the set's command is, at value 0: the number itself, but for 2.
+pub fn number(number: u32) -> u32
+    ensures { λ r. ⌜ ((k v : ℕ) → rules.command r k 0 ≡ read-as as-set (rules.command number k v)) ⌝ }
+{
+    if number == 2 {
+        return 0;
+    }
+    number
+}
+
+// The map's answer as the set words it: the value is 0, but a COUNT's.
+pub fn answer(r: Answer) -> Answer
+    ensures { λ s. ⌜ ((m : rules.Answer ℕ) → Says r m → Says s (answer-as as-set m)) ⌝ }
+{
+    if r.code == 6 {
+        return r;
+    }
+    Answer {
+        code: r.code,
+        key: r.key,
+        value: 0,
+        count: r.count,
+    }
+}
