@@ -1,10 +1,13 @@
--- How far a call of feed goes, for callers: it takes no more than its input, and writes no more than its buffer.
+-- What callers of feed go by: it takes no more than its input, writes no more than its buffer, and no second outcome fits.
 -- Assumes nothing.
 use mathlib.Core.List.{List}
+use mathlib.Core.Path.{_≡_}
 use Prim.Native.Nat.{ℕ, _≤_}
 use native.Mathlib.Omega.{arith}
 use lib.ListN.{length, length-append}
+use Rattle.rules.specs.Edition.{tags}
 use Rattle.rules.specs.Calls.{well-formed, damaged}
+use Rattle.rules.proofs.WellFormed.{one-outcome}
 use Rattle.lines.specs.declared.stream.Pending.{Pending}
 use Rattle.lines.specs.Stream.{After, fed-with, Feeds}
 use Rattle.lines.proofs.Pieces.{taking-within}
@@ -20,3 +23,7 @@ pub writes-within : (p : Pending) (input out : List ℕ) {w : List ℕ} {given :
 unfolding fed-with
 writes-within p input out (well-formed st f e) = rw e (simp length-append (omega arith))
 writes-within p input out (damaged no-state e) = rw e (omega arith)
+
+pub one-outcome-fed : (p : Pending) (input out w : List ℕ) (given given′ : After) → Feeds p input out w given → Feeds p input out w given′
+    → given ≡ given′
+one-outcome-fed p input out w given given′ g g′ = one-outcome tags g g′

@@ -19,7 +19,7 @@ use Rattle.rules.specs.Arena.{WellFormed}
 use Rattle.rules.specs.Reading.{as-set, read-as}
 use Rattle.rules.specs.Calls.{Replied, Checked, well-formed, damaged, One, perform-as, perform-all, one-on, one-refused}
 use Rattle.rules.proofs.Order.{tags-lawful, self}
-use Rattle.rules.proofs.WellFormed.{sound, the-state}
+use Rattle.rules.proofs.WellFormed.{sound, the-state, one-outcome}
 use Rattle.rules.proofs.Run.{perform-as-live}
 use Rattle.commands.specs.Did.{Says}
 use Rattle.commands.specs.declared.answer.Answer as machine
@@ -157,3 +157,7 @@ run-no-value (c ∷ cs) st a h d =
     (λ e. ap (λ (x : Answer ℕ). x .value) e ∙ no-value c st (λ q. d (ap (λ (x : Answer ℕ). code-number (x .code)) e ∙ q)))
     (λ m. run-no-value cs (perform-as tags as-set c st .state) a m d)
     (List·Memᴰ·cases-cons h)
+
+-- No second outcome fits a call by name.
+pub one-outcome-asked : (c : Command ℕ) (w : List ℕ) (given given′ : Told) → Asks c w given → Asks c w given′ → given ≡ given′
+one-outcome-asked c w given given′ g g′ = one-outcome tags g g′
