@@ -1,5 +1,5 @@
 // One line of the program, read and written: a command's three words from 24 lower-case hexadecimal digits, and an answer's four words as
-// 32 digits and a newline. Reading takes any bytes. Writing may assume that the line fits in what it is given.
+// 32 digits and a newline. What is public here takes anything.
 ghost use mathlib.Core.Path.{_≡_};
 ghost use mathlib.Core.List.{[], _∷_, _++_};
 ghost use Prim.Native.Nat.{_+_, _<_, _≤_};
@@ -71,7 +71,7 @@ fn read_word(table: &[u8; 256], line: &[u8], at: usize) -> Word
 }
 
 // What the line says: the three words of exactly 24 digits, and of anything else that it is bad. The table is lent.
-pub fn read_with(table: &[u8; 256], line: &[u8]) -> Line
+fn read_with(table: &[u8; 256], line: &[u8]) -> Line
     requires { ⌜ Digit-table (now table) ⌝ }
     ensures { λ r. ⌜ Reads (now (line .entry)) r ⌝ }
 {
@@ -129,7 +129,7 @@ fn spell_word(table: &[u8; 16], out: &mut [u8], at: usize, w: u32)
 }
 
 // Writes the line of an answer. Every other byte stays.
-pub fn write_answer(out: &mut [u8], at: usize, code: u32, key: u32, value: u32, count: u32)
+fn write_answer(out: &mut [u8], at: usize, code: u32, key: u32, value: u32, count: u32)
     requires { ⌜ at + 33 ≤ length (now out) ⌝ }
     ensures { λ _. ⌜ now (out .exit)
         ≡ sets (now (out .entry)) at (all-spelled (code ∷ key ∷ value ∷ count ∷ []) ++ (newline ∷ [])) ⌝ }
@@ -140,4 +140,13 @@ pub fn write_answer(out: &mut [u8], at: usize, code: u32, key: u32, value: u32, 
     spell_word(&table, out, at + 16, value);
     spell_word(&table, out, at + 24, count);
     out[at + 32] = NEWLINE;
+}
+
+// The line of an answer alone.
+pub fn answer_line(code: u32, key: u32, value: u32, count: u32) -> [u8; 33]
+    ensures { λ r. ⌜ r ≡ all-spelled (code ∷ key ∷ value ∷ count ∷ []) ++ (newline ∷ []) ⌝ }
+{
+    let mut line = [0u8; 33];
+    write_answer(&mut line, 0, code, key, value, count);
+    line
 }

@@ -1,5 +1,4 @@
 // The line program: commands on standard input, their answers on standard output. The library answers; this reads and writes.
-use commands::fresh;
 use libc::STDIN_FILENO;
 use libc::STDOUT_FILENO;
 use lines::stream::Pending;
@@ -75,7 +74,7 @@ fn run(a: &mut [u32], buf: &mut [u8], out: &mut [u8]) {
 
 fn main() {
     let mut arena = [0u32; 4100];
-    fresh(&mut arena, 1024);
+    map::make(&mut arena, 1024);
     let mut buf = io::large_buffer();
     let mut out = io::large_buffer();
     run(&mut arena, &mut buf, &mut out);
