@@ -1,35 +1,20 @@
 // The largest arena at its length and one word short of it, and one with a slot more, which is well formed but for its N.
+use crate::front::one_front;
+use crate::front::run_front;
 use crate::making::largest;
 use crate::say::both;
 use crate::words::M;
 use crate::words::same;
 ghost use Prim.Native.Nat.{_≤_};
-ghost use lib.ListN.{length};
 
-// The code of the command `length` on the first words.
-fn one_front(a: &mut [u32], lent: usize) -> u32
-    requires { ⌜ lent ≤ length (now a) ⌝ }
-{
-    let r = map::one(&mut a[..lent], 12, 0, 0);
-    r.code
-}
-
-// The code of an empty run on the first words.
-fn run_front(a: &mut [u32], lent: usize) -> u32
-    requires { ⌜ lent ≤ length (now a) ⌝ }
-{
-    let mut answers = [0u32; 0];
-    map::run(&mut a[..lent], &[], &mut answers)
-}
-
-// Neither call changes a word, whether it is accepted or refused.
+// The command `length` and an empty run. Neither changes a word, whether it is accepted or refused.
 fn case(text: &[u8], a: &mut [u32; 16392], lent: usize)
     requires { ⌜ lent ≤ 16392 ⌝ }
 {
     let before = *a;
-    let one = one_front(a, lent);
-    let run = run_front(a, lent);
-    both(text, one, run, same(a, &before));
+    let one = one_front(a, lent, 12, 0, 0);
+    let run = run_front(a, lent, &[], &mut []);
+    both(text, one.code, run, same(a, &before));
 }
 
 // Chains one slot more to a new arena of 4095.

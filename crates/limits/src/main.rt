@@ -2,6 +2,7 @@
 // rooms that are a word off, the order of the refusals. Each case writes one line: what was tried, the code that came back, and whether
 // every word that was lent is as it should be, WRONG where one is not.
 mod damage;
+mod front;
 mod large;
 mod links;
 mod lists;

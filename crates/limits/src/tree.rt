@@ -1,11 +1,11 @@
 // A small arena, and what the calls do with it when a few of its words are changed.
+use crate::front::one_front;
+use crate::front::run_front;
 use crate::say::both;
 use crate::words::FILL;
 use crate::words::M;
 use crate::words::same;
-use commands::Answer;
 ghost use Prim.Native.Nat.{_≤_};
-ghost use lib.ListN.{length};
 
 // Writes the words of the slot that the link leads to. Link 9 leads to the words behind the eight slots.
 pub fn slot(a: &mut [u32; 40], link: usize, key: u32, value: u32, left: u32, right: u32)
@@ -55,26 +55,12 @@ struct Seen {
     fine: bool,
 }
 
-// An insert on the first words.
-fn one_front(a: &mut [u32], lent: usize) -> Answer
-    requires { ⌜ lent ≤ length (now a) ⌝ }
-{
-    map::one(&mut a[..lent], 5, 7, 70)
-}
-
-// A run of the same insert on the first words.
-fn run_front(a: &mut [u32], lent: usize, answers: &mut [u32]) -> u32
-    requires { ⌜ lent ≤ length (now a) ⌝ }
-{
-    map::run(&mut a[..lent], &[5, 7, 70], answers)
-}
-
-// A single command that is to be refused: a code, three zeros, and every word as before.
+// An insert that is to be refused: a code, three zeros, and every word as before.
 fn one_refused(a: &mut [u32; 40], lent: usize) -> Seen
     requires { ⌜ lent ≤ 40 ⌝ }
 {
     let before = *a;
-    let r = one_front(a, lent);
+    let r = one_front(a, lent, 5, 7, 70);
     let zeros = r.key == 0 && r.value == 0 && r.count == 0;
     Seen {
         code: r.code,
@@ -82,13 +68,13 @@ fn one_refused(a: &mut [u32; 40], lent: usize) -> Seen
     }
 }
 
-// A run that is to be refused: a code, and every word of arena and answer room as before.
+// A run of the same insert that is to be refused: a code, and every word of arena and answer room as before.
 fn run_refused(a: &mut [u32; 40], lent: usize) -> Seen
     requires { ⌜ lent ≤ 40 ⌝ }
 {
     let before = *a;
     let mut answers = [FILL; 4];
-    let code = run_front(a, lent, &mut answers);
+    let code = run_front(a, lent, &[5, 7, 70], &mut answers);
     Seen {
         code,
         fine: same(&answers, &[FILL; 4]) && same(a, &before),

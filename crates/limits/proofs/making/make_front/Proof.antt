@@ -2,7 +2,6 @@
 use mathlib.Core.Path.{sym}
 use native.Mathlib.Omega.{arith}
 use lib.Seq.{length-take-le}
-use lib.ListN.{length}
 use borrow.Author.Needs.{needs}
 use Rattle.limits.proofs.making.make_front.Statement.{statement}
 use Rattle.limits.proofs.making.make_front.Tie as tie

@@ -1,11 +1,10 @@
--- `limits::tree::one_front` is safe and ends. Assumes nothing.
+-- `limits::front::one_front` is safe and ends. Assumes nothing.
 use mathlib.Core.Path.{sym}
 use native.Mathlib.Omega.{arith}
 use lib.Seq.{length-take-le}
-use lib.ListN.{length}
 use borrow.Author.Needs.{needs}
-use Rattle.limits.proofs.tree.one_front.Statement.{statement}
-use Rattle.limits.proofs.tree.one_front.Tie as tie
+use Rattle.limits.proofs.front.one_front.Statement.{statement}
+use Rattle.limits.proofs.front.one_front.Tie as tie
 
 slice-relend-prefix-one : tie.Need-slice-relend-prefix-one
 slice-relend-prefix-one c = search needs

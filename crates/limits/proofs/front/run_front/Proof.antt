@@ -1,20 +1,16 @@
--- `limits::tree::run_front` is safe and ends. Assumes nothing.
+-- `limits::front::run_front` is safe and ends. Assumes nothing.
 use mathlib.Core.Path.{sym}
 use native.Mathlib.Omega.{arith}
 use lib.Seq.{length-take-le}
-use lib.ListN.{length}
 use borrow.Author.Needs.{needs}
-use Rattle.limits.proofs.tree.run_front.Statement.{statement}
-use Rattle.limits.proofs.tree.run_front.Tie as tie
+use Rattle.limits.proofs.front.run_front.Statement.{statement}
+use Rattle.limits.proofs.front.run_front.Tie as tie
 
 slice-relend-prefix-run : tie.Need-slice-relend-prefix-run
 slice-relend-prefix-run c = search needs
 
 slice-aggregate-run : tie.Need-slice-aggregate-run
 slice-aggregate-run c = sym (length-take-le _ _ (omega arith))
-
-slice-aggregate-run-2 : tie.Need-slice-aggregate-run-2
-slice-aggregate-run-2 c = search needs
 
 run-requires : tie.Need-run-requires
 run-requires c κs = search needs
@@ -34,7 +30,6 @@ run-front-spec =
     (tie.spec
     slice-relend-prefix-run
     slice-aggregate-run
-    slice-aggregate-run-2
     run-requires
     same-length
     same-length-2
