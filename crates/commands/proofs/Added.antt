@@ -1,21 +1,20 @@
 -- 5 insert: the key is there, or there is no room, or its node is the new root.
-use mathlib.Core.Bool.{true, false}
-use mathlib.Core.List.{List, [], _∷_}
+use mathlib.Core.Bool.{false}
+use mathlib.Core.List.{List, _∷_}
 use mathlib.Core.Path.{_≡_, refl, sym, ap, _∙_, subst}
-use Prim.Native.Nat.{ℕ, zero, suc, _+_, _*_, _≤_, _<_}
+use Prim.Native.Nat.{ℕ, _+_, _*_}
 use native.Mathlib.Omega.{arith}
-use lib.Dec.{eqb}
-use lib.ListN.{length, getD, set}
+use lib.ListN.{getD, set}
 use borrow.Author.Tests.{eq-eqb, ne-eqb}
-use Rattle.rules.specs.Order.{Side, left, right, Order, equal, toward, by-number, choose}
+use Rattle.rules.specs.Order.{Side, left, right, Order, equal, toward, by-number}
 use Rattle.rules.specs.Edition.{tags}
-use Rattle.rules.specs.Command.{insert, FULL, NEW}
+use Rattle.rules.specs.Command.{insert}
 use Rattle.rules.specs.Tree.{Entry, Tree, none, node, size, link-to}
 use Rattle.rules.specs.Splay.{splay}
 use Rattle.rules.specs.Perform as M
 use Rattle.rules.specs.Perform.{State, Outcome, full, in-slot, first-of, with-tree, taking, room, new-root, bring, inserted, perform}
 use Rattle.rules.specs.Arena.{WellFormed, over}
-use Rattle.rules.proofs.Order.{order-says, order-from, tags-lawful}
+use Rattle.rules.proofs.Order.{order-from, tags-lawful}
 use Rattle.rules.proofs.Kept.{perform-sound}
 use Rattle.rules.proofs.Sound.{Sound}
 use Rattle.rules.proofs.WellFormed.{sound}

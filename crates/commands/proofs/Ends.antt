@@ -1,16 +1,15 @@
 -- 9, 10: the end that has risen to the root is taken, for either side.
-use mathlib.Core.List.{List, [], _∷_}
+use mathlib.Core.List.{List}
 use mathlib.Core.Path.{_≡_, refl, sym, ap, _∙_, subst}
-use Prim.Native.Nat.{ℕ, zero, suc, _+_, _*_, _≤_, _<_}
+use Prim.Native.Nat.{ℕ, suc, _+_, _*_, _≤_, _<_}
 use native.Mathlib.Omega.{arith}
-use lib.ListN.{length, getD, set, length-set}
-use lib.Seq.{getD-set-other}
-use Rattle.rules.specs.Order.{Side, left, right, other, of-side}
+use lib.ListN.{length, getD, set}
+use Rattle.rules.specs.Order.{Side, left, right, other}
 use Rattle.rules.specs.Edition.{tags}
-use Rattle.rules.specs.Command.{REMOVED, ABSENT, telling, take-first, take-last}
-use Rattle.rules.specs.Tree.{Entry, Tree, none, node, fork, hit, times, weigh, size, link-to}
+use Rattle.rules.specs.Command.{REMOVED, telling, take-first, take-last}
+use Rattle.rules.specs.Tree.{Entry, Tree, none, node, fork, hit, times, weigh, link-to}
 use Rattle.rules.specs.Perform.{State, Outcome, freeing, gives, raise, taken, perform}
-use Rattle.rules.specs.Arena.{Slot, Holds, WellFormed}
+use Rattle.rules.specs.Arena.{Slot, WellFormed}
 use Rattle.rules.proofs.Hit.{hit-same}
 use Rattle.rules.proofs.Order.{tags-lawful}
 use Rattle.rules.proofs.Splay.{weigh-fork}
@@ -18,7 +17,7 @@ use Rattle.rules.proofs.Kept.{perform-sound}
 use Rattle.rules.proofs.Sound.{Sound}
 use Rattle.rules.proofs.WellFormed.{sound, the-words}
 use Rattle.node.specs.Stands.{off, Stands}
-use Rattle.node.proofs.Memory.{link-on, on-key, on-value, on-far, fork-link, held-fork, no-link, real-link}
+use Rattle.node.proofs.Memory.{link-on, on-key, on-value, on-far, fork-link, held-fork, no-link}
 use Rattle.node.proofs.Tags.{slots, key-word, value-word, link-word}
 use Rattle.splay.specs.Moves.{Became, risen, end-risen}
 use Rattle.commands.specs.Did.{Did}

@@ -1,22 +1,21 @@
 -- A new node becomes the root, for either side: what insert of a new key comes to.
 use mathlib.Core.List.{List, [], _∷_}
 use mathlib.Core.Path.{_≡_, refl, sym, ap, _∙_, subst}
-use Prim.Native.Nat.{ℕ, zero, suc, _+_, _*_, _≤_, _<_}
+use Prim.Native.Nat.{ℕ, suc, _+_, _*_, _≤_, _<_}
 use native.Mathlib.Omega.{arith}
 use lib.ListN.{length, getD, set, length-set}
 use lib.Seq.{getD-set-same, getD-set-other}
-use Rattle.rules.specs.Order.{Side, left, right, other, of-side, toward, by-number}
+use Rattle.rules.specs.Order.{Side, left, right, other, toward, by-number}
 use Rattle.rules.specs.Edition.{tags}
-use Rattle.rules.specs.Tree.{Entry, Tree, none, node, fork, hit, times, weigh, size, link-to}
+use Rattle.rules.specs.Tree.{Entry, Tree, none, node, fork, hit, times, size, link-to}
 use Rattle.rules.specs.Perform.{State, taking, new-root}
-use Rattle.rules.specs.Arena.{Slot, content, Holds, Chained, free-slot, first-link, listed, WellFormed}
-use Rattle.rules.proofs.Hit.{hit-same, hit-other, hit-ne}
+use Rattle.rules.specs.Arena.{Slot, Holds, Chained, free-slot, first-link, listed, WellFormed}
+use Rattle.rules.proofs.Hit.{hit-same}
 use Rattle.rules.proofs.Pigeons.{below}
 use Rattle.rules.proofs.Splay.{weigh-fork}
 use Rattle.rules.proofs.Held.{chained-frame, chained-once, holds-frame}
-use Rattle.rules.proofs.WellFormed.{sound, sound-once}
 use Rattle.node.specs.Stands.{off}
-use Rattle.node.proofs.Memory.{on, link-on, with-link, on-near, fork-link, fork-held, held-fork, no-link, Same, holds-same, Relinked, relinked-near, relinked-far, relinked-same}
+use Rattle.node.proofs.Memory.{on, link-on, on-near, fork-link, fork-held, held-fork, no-link, Relinked, relinked-near, relinked-far}
 use Rattle.node.proofs.Tags.{slots, key-word, link-word, relinked-at}
 use Rattle.commands.specs.Slots.{Took, Written, crowned, with-root, Grew}
 use Rattle.commands.proofs.Settle.{header-slots}

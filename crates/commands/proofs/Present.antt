@@ -2,34 +2,32 @@
 use mathlib.Core.Bool.{true, false}
 use mathlib.Core.List.{List}
 use mathlib.Core.Path.{_≡_, refl, sym, ap, _∙_, subst}
-use Prim.Native.Nat.{ℕ, zero, suc, _+_, _*_, _≤_, _<_}
+use Prim.Native.Nat.{ℕ, suc, _+_, _*_, _≤_, _<_}
 use native.Mathlib.Omega.{arith}
-use lib.ListN.{length, getD, set, length-set}
-use lib.Seq.{getD-set-other}
-use Rattle.rules.specs.Order.{Side, left, right, Order, equal, toward, by-number}
+use lib.ListN.{length, getD, set}
+use Rattle.rules.specs.Order.{Side, Order, equal, toward, by-number}
 use Rattle.rules.specs.Edition.{tags}
-use Rattle.rules.specs.Command.{FOUND, ABSENT, REPLACED, bare, telling, get, write}
-use Rattle.rules.specs.Tree.{Entry, Tree, none, node, hit, times, size, link-to}
+use Rattle.rules.specs.Command.{write}
+use Rattle.rules.specs.Tree.{Entry, Tree, none, node, hit, times, link-to}
 use Rattle.rules.specs.Splay.{splay, walk}
 use Rattle.rules.specs.Perform as M
-use Rattle.rules.specs.Perform.{State, Outcome, met, with-tree, revalued, gives, root-met, bring, if-present, found, replaced, perform}
-use Rattle.rules.specs.Arena.{Slot, content, Holds, WellFormed, over}
+use Rattle.rules.specs.Perform.{State, Outcome, met, with-tree, revalued, root-met, bring, if-present, found, replaced, perform}
+use Rattle.rules.specs.Arena.{Slot, Holds, WellFormed, over}
 use Rattle.rules.proofs.Hit.{hit-same, hit-ne}
 use Rattle.rules.proofs.Order.{order-from, order-says, tags-lawful}
-use Rattle.rules.proofs.Splay.{splay-weighs, splay-count, splay-real, Real}
-use Rattle.rules.proofs.Held.{holds-frame}
+use Rattle.rules.proofs.Splay.{splay-count, splay-real, Real}
 use Rattle.rules.proofs.Kept.{perform-sound}
 use Rattle.rules.proofs.Sound.{Sound}
 use Rattle.rules.proofs.WellFormed.{sound, header-within, the-words}
 use Rattle.rules.proofs.Words.{over-over}
 use Rattle.node.proofs.Memory.{no-link, real-link, Same, holds-same}
-use Rattle.node.proofs.Tags.{slots, Put, put-at, with-word, key-word, value-word, kept-set}
-use Rattle.commands.specs.Did.{Says, Did, Splayed-to}
+use Rattle.node.proofs.Tags.{slots, put-at, with-word, key-word, value-word, kept-set}
+use Rattle.commands.specs.Did.{Did, Splayed-to}
 use Rattle.commands.specs.Met.{At-root, Meets, no-tree, beside, here}
 use Rattle.commands.specs.declared.answer.Answer.{Answer}
 use Rattle.commands.specs.declared.lookup.Met.{Met}
-use Rattle.commands.proofs.Settle.{Settled, settle, splayed}
-use Rattle.commands.proofs.Root.{slot-in, off-tree, header-in, tree-stands, chain-stays}
+use Rattle.commands.proofs.Settle.{Settled, settle}
+use Rattle.commands.proofs.Root.{slot-in, chain-stays}
 
 -- Numbers that differ lie on a side.
 pub apart : (a b : ℕ) → (a ≡ b → ⊥) → (s : Side) × (by-number a b ≡ toward s)

@@ -1,35 +1,33 @@
 -- A node leaves the tree and its slot goes to the front of the chain: what remove and the takes come to.
-use mathlib.Core.List.{List, [], _∷_}
+use mathlib.Core.List.{List}
 use mathlib.Core.Path.{_≡_, refl, sym, ap, _∙_, subst}
-use Prim.Native.Nat.{ℕ, zero, suc, _+_, _*_, _≤_, _<_}
+use Prim.Native.Nat.{ℕ, suc, _+_, _*_, _≤_, _<_}
 use native.Mathlib.Omega.{arith}
 use lib.ListN.{length, getD, set, length-set}
 use lib.Seq.{getD-set-same, getD-set-other}
-use Rattle.rules.specs.Order.{Side, left, right, other, of-side, by-number}
+use Rattle.rules.specs.Order.{left, right, by-number}
 use Rattle.rules.specs.Edition.{tags}
 use Rattle.rules.specs.Command.{remove}
-use Rattle.rules.specs.Tree.{Entry, Tree, none, node, fork, hit, times, size, link-to}
+use Rattle.rules.specs.Tree.{Tree, none, node, times, size, link-to}
 use Rattle.rules.specs.Splay.{splay}
 use Rattle.rules.specs.Perform as M
-use Rattle.rules.specs.Perform.{State, Outcome, with-tree, freeing, hung-on, gives, if-present, bring, removed, raise, taken, perform}
-use Rattle.rules.specs.Arena.{Slot, Holds, Chained, first-link, listed, WellFormed, over}
+use Rattle.rules.specs.Perform.{State, Outcome, freeing, if-present, bring, removed, perform}
+use Rattle.rules.specs.Arena.{Holds, WellFormed}
 use Rattle.rules.proofs.Hit.{hit-same}
 use Rattle.rules.proofs.Order.{tags-lawful}
-use Rattle.rules.proofs.Pigeons.{below}
 use Rattle.rules.proofs.Splay.{splay-count}
-use Rattle.rules.proofs.Held.{chained-frame, holds-frame}
+use Rattle.rules.proofs.Held.{holds-frame}
 use Rattle.rules.proofs.Kept.{perform-sound}
 use Rattle.rules.proofs.Sound.{Sound}
-use Rattle.rules.proofs.WellFormed.{sound, sound-once, header-within}
+use Rattle.rules.proofs.WellFormed.{sound, header-within}
 use Rattle.node.specs.Stands.{Stands, Changed}
 use Rattle.node.proofs.Tags.{slots}
 use Rattle.splay.specs.Moves.{Somewhere, Became, root-gone}
 use Rattle.commands.specs.Did.{Did}
-use Rattle.commands.specs.Met.{At-root}
 use Rattle.commands.specs.Slots.{Released}
 use Rattle.commands.proofs.Settle.{Settled, settle, header-slots}
-use Rattle.commands.proofs.Root.{slot-in, off-tree, header-in, tree-stands, chain-stays}
-use Rattle.commands.proofs.Present.{did-as, Here, root-inside, root-key, root-value, settled-on}
+use Rattle.commands.proofs.Root.{slot-in, header-in, tree-stands, chain-stays}
+use Rattle.commands.proofs.Present.{did-as, Here, root-key, root-value, settled-on}
 
 -- The slot s, one of the tree's, is released; u is what is left of the tree, and stands at the link z.
 module _ {st : State ℕ} {w w₁ w₂ w₃ : List ℕ} (g : WellFormed tags w st) (s z : ℕ) (u : Tree ℕ)

@@ -1,27 +1,25 @@
 -- The root of a well-formed arena: it stands, and after a splay the arena is settled with the splayed tree.
-use mathlib.Core.List.{List, [], _∷_}
-use mathlib.Core.Path.{_≡_, refl, sym, ap, _∙_, subst}
-use Prim.Native.Nat.{ℕ, zero, suc, _+_, _*_, _≤_, _<_}
+use mathlib.Core.List.{List}
+use mathlib.Core.Path.{_≡_, sym, ap, _∙_}
+use Prim.Native.Nat.{ℕ, _≤_, _<_}
 use native.Mathlib.Omega.{arith}
 use lib.ListN.{length, getD, set, length-set}
 use lib.Seq.{getD-set-same, getD-set-other}
 use Rattle.rules.specs.Order.{by-number}
 use Rattle.rules.specs.Edition.{tags}
-use Rattle.rules.specs.Tree.{Entry, Tree, none, node, hit, times, size, link-to}
+use Rattle.rules.specs.Tree.{Tree, none, node, times}
 use Rattle.rules.specs.Splay.{splay}
-use Rattle.rules.specs.Perform.{State, with-tree}
-use Rattle.rules.specs.Arena.{Slot, content, Holds, Chained, first-link, listed, WellFormed}
-use Rattle.rules.proofs.Hit.{hit-same}
+use Rattle.rules.specs.Perform.{State}
+use Rattle.rules.specs.Arena.{Slot, Holds, Chained, listed, WellFormed}
 use Rattle.rules.proofs.Pigeons.{below}
-use Rattle.rules.proofs.Splay.{Real, splay-weighs, splay-real, splay-count}
+use Rattle.rules.proofs.Splay.{splay-weighs}
 use Rattle.rules.proofs.Held.{chained-frame}
-use Rattle.rules.proofs.WellFormed.{sound, sound-once, header-within}
+use Rattle.rules.proofs.WellFormed.{sound, sound-once}
 use Rattle.node.specs.Stands.{Stands}
-use Rattle.node.proofs.Memory.{real-link}
 use Rattle.node.proofs.Tags.{slots}
 use Rattle.splay.specs.Moves.{Somewhere, Became}
 use Rattle.commands.specs.Did.{Splayed-to}
-use Rattle.commands.proofs.Settle.{Settled, settle, header-slots, splayed, splayed-sound}
+use Rattle.commands.proofs.Settle.{settle, header-slots, splayed, splayed-sound}
 
 module _ {w : List ℕ} {st : State ℕ} (f : WellFormed tags w st) where
   -- A slot of the tree lies in the arena; it is not on the chain.

@@ -1,21 +1,21 @@
 -- When the header and the slots of some words are those of a state, the words are that state's arena, word for word.
-use mathlib.Core.List.{List, [], _∷_, _++_}
-use mathlib.Core.Path.{_≡_, refl, sym, ap, _∙_, subst}
+use mathlib.Core.List.{List, _++_}
+use mathlib.Core.Path.{_≡_, sym, ap, _∙_, subst}
 use Prim.Native.Nat.{ℕ, zero, suc, _+_, _*_, _/_, _%_, _-_, _≤_, _<_}
 use native.Mathlib.Omega.{arith}
-use lib.ListN.{length, getD, set, drop, length-drop, length-set}
-use lib.Seq.{ext-getD, getD-drop, getD-set-same, getD-set-other}
+use lib.ListN.{length, getD, set, drop, length-drop}
+use lib.Seq.{ext-getD, getD-drop, getD-set-other}
 use Rattle.rules.specs.Order.{by-number}
 use Rattle.rules.specs.Edition.{tags}
 use Rattle.rules.specs.Live.{Ascending}
-use Rattle.rules.specs.Tree.{Tree, hit, times, size, link-to, entries}
+use Rattle.rules.specs.Tree.{Tree, hit}
 use Rattle.rules.specs.Splay.{splay}
 use Rattle.rules.specs.Perform.{State, with-tree}
-use Rattle.rules.specs.Arena.{Slot, Holds, Chained, first-link, listed, slot-at, place, over, words, WellFormed}
+use Rattle.rules.specs.Arena.{Slot, over, words, WellFormed}
 use Rattle.rules.proofs.Order.{tags-lawful}
 use Rattle.rules.proofs.Splay.{splay-keeps, splay-weighs}
 use Rattle.rules.proofs.Sound.{Sound}
-use Rattle.rules.proofs.WellFormed.{sound, well-formed, the-words}
+use Rattle.rules.proofs.WellFormed.{well-formed, the-words}
 use Rattle.node.proofs.Tags.{slots, slot-same}
 use Rattle.commands.specs.Slots.{Written}
 

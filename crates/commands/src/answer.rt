@@ -1,7 +1,7 @@
 // Answers, and how they are worded.
 use node::word;
 ghost use mathlib.Core.Path.{_≡_};
-ghost use Prim.Native.Nat.{ℕ, _+_, _*_, _<_};
+ghost use Prim.Native.Nat.{_+_, _*_, _<_};
 ghost use lib.ListN.{length, getD};
 
 // "An answer is four words: code, key, value, comparisons."

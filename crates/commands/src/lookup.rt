@@ -6,7 +6,6 @@ use node::put;
 use node::word;
 use splay::Splayed;
 use splay::splay;
-ghost use mathlib.Core.Path.{_≡_};
 ghost use Prim.Native.Nat.{ℕ, _<_};
 ghost use lib.ListN.{getD};
 ghost use Rattle.rules.specs.Edition.{tags};

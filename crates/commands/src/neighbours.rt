@@ -5,7 +5,6 @@ use crate::answer::entry;
 use crate::lookup::splay_root;
 use node::word;
 ghost use mathlib.Core.Path.{_≡_};
-ghost use mathlib.Core.Bool.{Bool};
 ghost use Prim.Native.Nat.{ℕ, _+_, _<_};
 ghost use Rattle.rules.specs.Order.{is-toward, by-number};
 ghost use Rattle.rules.specs.Edition.{tags};

@@ -3,7 +3,7 @@
 -- Assumes nothing.
 use mathlib.Core.Bool.{Bool, true, false}
 use mathlib.Core.List.{List, [], _∷_, _++_}
-use mathlib.Core.Path.{_≡_, refl, sym, _∙_, ap}
+use mathlib.Core.Path.{_≡_, refl, _∙_, ap}
 use Prim.Native.Nat.{ℕ, _≤_}
 use native.Mathlib.Omega.{arith}
 use lib.Dec.{eqb}
@@ -18,10 +18,10 @@ use Rattle.rules.specs.Calls.{well-formed, damaged}
 use Rattle.rules.specs.Lines.{newline, respond, lines, output}
 use Rattle.rules.proofs.Order.{tags-lawful}
 use Rattle.rules.proofs.WellFormed.{sound, the-state, the-words}
-use Rattle.rules.proofs.Words.{over-formed, over-over}
+use Rattle.rules.proofs.Words.{over-formed}
 use Rattle.lines.specs.declared.stream.Pending.{Pending}
 use Rattle.lines.specs.Stream.{no-line, held, ended, state-after, taking, After, fed-with, feeding, Feeds, closing}
-use Rattle.lines.proofs.Pieces.{held-append, ended-append, state-append, respond-append, state-slots, state-sound}
+use Rattle.lines.proofs.Pieces.{ended-append, state-slots, state-sound}
 use Rattle.lines.proofs.Took.{Took, both}
 use Rattle.lines.proofs.Alike.{same-answers, same-state, no-line-alike, whole-lines}
 

@@ -1,13 +1,12 @@
 -- Slots that hold trees, in any memory from slot numbers to what the slots hold: one link stored, and what it leaves alone. Each law is
 -- said once for both sides.
-use mathlib.Core.Logic.{⊎-elim}
-use mathlib.Core.Path.{_≡_, refl, sym, ap, _∙_}
+use mathlib.Core.Path.{_≡_, refl, ap, _∙_}
 use Prim.Native.Nat.{ℕ, suc, _+_, _≤_, _<_}
 use native.Mathlib.Omega.{arith}
 use Rattle.rules.specs.Order.{Side, left, right, other, of-side}
-use Rattle.rules.specs.Tree.{Entry, Tree, none, node, fork, hit, times, weigh, link-to}
-use Rattle.rules.specs.Arena.{Slot, content, Holds}
-use Rattle.rules.proofs.Hit.{hit-same, hit-other, hit-ne}
+use Rattle.rules.specs.Tree.{Entry, Tree, none, node, fork, hit, times, link-to}
+use Rattle.rules.specs.Arena.{Slot, Holds}
+use Rattle.rules.proofs.Hit.{hit-same, hit-ne}
 use Rattle.rules.proofs.Splay.{Real, weigh-fork}
 
 module _ {K : Type 0} where

@@ -1,11 +1,11 @@
 -- The words of an arena whose keys are tags, as a memory of slots: what reading a word gives, and what storing one changes.
 use mathlib.Core.List.{List}
 use mathlib.Core.Path.{_≡_, refl, sym, ap, _∙_}
-use Prim.Native.Nat.{ℕ, zero, suc, _+_, _*_, _≤_, _<_}
+use Prim.Native.Nat.{ℕ, zero, suc, _+_, _*_, _<_}
 use native.Mathlib.Omega.{arith}
 use lib.ListN.{length, getD, set, length-set}
 use lib.Seq.{getD-set-same, getD-set-other}
-use Rattle.rules.specs.Order.{Side, left, right, other}
+use Rattle.rules.specs.Order.{Side, left, right}
 use Rattle.rules.specs.Edition.{tags}
 use Rattle.rules.specs.Arena.{Slot, slot-at}
 use Rattle.node.specs.Stands.{off, Kept, Filled}

@@ -1,7 +1,7 @@
 // A slot's four words, by the link that leads to it: 0 is the key, 1 the value, 2 and 3 the left and the right link.
 // The link x leads to slot x - 1, whose words begin at 4 * x. These functions may assume that the slot lies in the arena.
 ghost use mathlib.Core.Path.{_≡_};
-ghost use Prim.Native.Nat.{ℕ, _+_, _*_, _<_, _≤_};
+ghost use Prim.Native.Nat.{_+_, _*_, _<_};
 ghost use lib.ListN.{length, getD, set};
 ghost use Rattle.node.specs.Stands.{Filled};
 

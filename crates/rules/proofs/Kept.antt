@@ -63,10 +63,6 @@ sum-length [] = refl
 sum-length (x ∷ l) = omega (arith, sum-length l)
 
 module _ {K : Type 0} where
-  pub new-entries : (n : ℕ) → entries (new {K = K} n .tree) ≡ []
-  unfolding new entries
-  new-entries n = refl
-
   -- The same over a state, in its tree and on its chain.
   abbrev total : (ℕ → ℕ) → State K → ℕ
   total g st = weigh (λ e. g (e .slot)) (st .tree) + sum g (st .free)

@@ -72,11 +72,6 @@ tags-lawful =
       reread = λ a k b. getD-append-seam a k b 0;
     }
 
--- Sides.
-pub other-other : (s : Side) → other (other s) ≡ s
-other-other left = refl
-other-other right = refl
-
 -- A key compares equal with itself.
 module _ {K : Type 0} (ed : Edition K) (laws : Lawful ed) where
   both-sides : (s : Side) → _≡_ {A = Order} (toward s) (toward (other s)) → ⊥

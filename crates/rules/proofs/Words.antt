@@ -81,9 +81,6 @@ module _ {K : Type 0} (ed : Edition K) where
       by s b nil p = absurd (omega (arith, held-none s t p))
       by s b (some c) p = refl
 
-  pub chain-holds : (c : List ℕ) → ((s : ℕ) → listed s c ≤ 1) → Chained ed (λ s. free-slot ed (link-after s c)) c
-  chain-holds c once = links-chained (λ s. free-slot ed (link-after s c)) c once (λ s b. refl)
-
   -- What a sound state has in its slots holds its tree and its chain.
   module _ {st : State K} (a : Sound ed st) where
     pub state-holds : Holds (slot-of ed st) (st .tree)

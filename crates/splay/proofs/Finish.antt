@@ -1,12 +1,12 @@
 -- The end of the splay in any memory: the node's subtrees go to the ends of the two trees, and the trees become its children.
-use mathlib.Core.List.{List, [], _∷_}
-use mathlib.Core.Path.{_≡_, refl, sym, ap, _∙_, subst}
-use Prim.Native.Nat.{ℕ, suc, _+_, _*_, _≤_, _<_}
+use mathlib.Core.List.{List}
+use mathlib.Core.Path.{_≡_, sym, ap, _∙_, subst}
+use Prim.Native.Nat.{ℕ, suc, _+_, _≤_}
 use native.Mathlib.Omega.{arith}
-use Rattle.rules.specs.Order.{Side, left, right, other, Order}
-use Rattle.rules.specs.Tree.{Entry, Tree, none, node, fork, hang, hit, times, weigh, size, link-to}
-use Rattle.rules.specs.Splay.{Gathered, Splayed, nothing, assemble, splay}
-use Rattle.rules.specs.Arena.{Slot, content, Holds}
+use Rattle.rules.specs.Order.{left, right, Order}
+use Rattle.rules.specs.Tree.{Entry, Tree, none, node, hang, hit, times, link-to}
+use Rattle.rules.specs.Splay.{Splayed, nothing, assemble, splay}
+use Rattle.rules.specs.Arena.{Slot, Holds}
 use Rattle.rules.proofs.Hit.{hit-same}
 use Rattle.rules.proofs.Splay.{Real, Splays, splay-only}
 use Rattle.node.proofs.Memory.{on, Same, same-trans, same-more, holds-same, Relinked, relinked-same, relinked-near, relinked-far}

@@ -1,10 +1,10 @@
 -- A tree with a gap at its end on one side, from the gap up: the left tree and the right tree while they are built.
 use mathlib.Core.List.{List, [], _∷_}
-use mathlib.Core.Path.{_≡_, refl, sym, ap, _∙_}
-use Prim.Native.Nat.{ℕ, suc, _+_, _≤_, _<_}
+use mathlib.Core.Path.{_≡_, refl, ap, _∙_}
+use Prim.Native.Nat.{ℕ, suc, _+_, _≤_}
 use native.Mathlib.Omega.{arith}
-use Rattle.rules.specs.Order.{Side, left, right, other}
-use Rattle.rules.specs.Tree.{Entry, Tree, none, node, fork, hang, hit, times, weigh, link-to}
+use Rattle.rules.specs.Order.{Side, left, right}
+use Rattle.rules.specs.Tree.{Entry, Tree, none, fork, hang, hit, weigh, link-to}
 use Rattle.rules.specs.Splay.{Gathered, tick, join}
 use Rattle.rules.specs.Arena.{Slot, Holds}
 use Rattle.rules.proofs.Hit.{hit-same}

@@ -7,14 +7,12 @@ use lib.ListN.{length, getD}
 use Rattle.rules.specs.Order.{Side, left, right, other, of-side}
 use Rattle.rules.specs.Edition.{tags}
 use Rattle.rules.specs.Tree.{Entry, Tree, none, node, fork, hit, times, weigh, size, link-to}
-use Rattle.rules.specs.Arena.{Holds}
 use Rattle.rules.proofs.Hit.{hit-same}
 use Rattle.rules.proofs.Splay.{weigh-fork}
-use Rattle.node.specs.Stands.{off, Stands, Kept, Changed}
-use Rattle.node.proofs.Memory.{link-on, on-near, on-far, fork-link, times-fork, held-fork, by-fork, no-link, Relinked, rotate-same, rotate-holds}
+use Rattle.node.specs.Stands.{off, Stands, Changed}
+use Rattle.node.proofs.Memory.{link-on, on-near, on-far, fork-link, held-fork, by-fork, no-link, Relinked, rotate-same, rotate-holds}
 use Rattle.node.proofs.Tags.{slots, kept-trans}
 use Rattle.splay.specs.Moves.{rotated, Became, risen, end-risen}
-use Rattle.splay.proofs.Walk.{In-tree}
 use Rattle.splay.proofs.Tagged.{link-read, rotated-at, rotated-kept, stands-read}
 use Rattle.splay.proofs.Turns.{read-off}
 use Rattle.splay.proofs.Standing.{root-in, unchanged}

@@ -4,17 +4,16 @@ use mathlib.Core.Path.{_≡_, refl, sym, ap, _∙_, subst}
 use Prim.Native.Nat.{ℕ, zero, suc, _+_, _*_, _≤_, _<_}
 use native.Mathlib.Omega.{arith}
 use lib.ListN.{length, getD, set}
-use Rattle.rules.specs.Order.{Side, left, right, other, by-number}
+use Rattle.rules.specs.Order.{left, right, by-number}
 use Rattle.rules.specs.Edition.{tags}
-use Rattle.rules.specs.Tree.{Entry, Tree, none, node, fork, hit, times, weigh, link-to}
+use Rattle.rules.specs.Tree.{Entry, Tree, none, node, hit, times, link-to}
 use Rattle.rules.specs.Splay.{splay, walk}
 use Rattle.rules.specs.Perform.{hung-on}
-use Rattle.rules.specs.Arena.{Holds}
 use Rattle.rules.proofs.Hit.{hit-same}
 use Rattle.rules.proofs.Splay.{Real, splay-weighs, splay-real}
 use Rattle.node.specs.Stands.{Stands, Kept, Changed}
 use Rattle.node.proofs.Memory.{real-link, holds-same, same-more, relinked-same, relinked-far}
-use Rattle.node.proofs.Tags.{slots, link-word, relinked-at, kept-refl, kept-trans, kept-set}
+use Rattle.node.proofs.Tags.{relinked-at, kept-refl, kept-trans, kept-set}
 use Rattle.splay.specs.Moves.{Somewhere, Became, root-gone}
 use Rattle.splay.proofs.Tagged.{link-read}
 

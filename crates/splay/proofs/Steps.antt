@@ -1,18 +1,18 @@
 -- The steps of the walk in any memory, for either side: from the loop's head to a stop, or over a link to the next turn.
-use mathlib.Core.Bool.{Bool, true, false}
+use mathlib.Core.Bool.{false}
 use mathlib.Core.List.{List, [], _∷_}
 use mathlib.Core.Path.{_≡_, refl, sym, ap, _∙_}
 use Prim.Native.Nat.{ℕ, suc, _+_, _*_, _≤_, _<_}
 use native.Mathlib.Omega.{arith}
-use Rattle.rules.specs.Order.{Side, left, right, other, Order, equal, toward, is-toward}
-use Rattle.rules.specs.Tree.{Entry, Tree, none, node, fork, hit, times, weigh, size, link-to}
-use Rattle.rules.specs.Splay.{Gathered, Splayed, nothing, tick, join, assemble, splay}
+use Rattle.rules.specs.Order.{Side, left, right, Order, equal, toward, is-toward}
+use Rattle.rules.specs.Tree.{Entry, Tree, none, node, fork, hit, times, size, link-to}
+use Rattle.rules.specs.Splay.{Splayed, nothing, tick, join, assemble}
 use Rattle.rules.specs.Arena.{Slot, Holds}
 use Rattle.rules.proofs.Hit.{hit-same}
 use Rattle.rules.proofs.Splay.{Real, fork-real, weigh-fork, Splays, equal-stop, no-child, rotate-stop, rotate-link, link-fork}
 use Rattle.rules.proofs.Held.{tree-from, tree-from-holds}
 use Rattle.node.proofs.Memory.{on-key, fork-link, held-fork, by-fork, no-link, real-link}
-use Rattle.splay.proofs.Paths.{Frame, weigh-path, gather, gather-tick, gather-join, Hung}
+use Rattle.splay.proofs.Paths.{Frame, gather, gather-tick, gather-join, Hung}
 use Rattle.splay.proofs.Walk.{Shape, In-tree, Key-read, Link-read, Rotated, counts, shape-lr, shape-rl, node-in, end-in, shape-node, shape-key, shape-near, shape-rotate, shape-link}
 
 module _ {K : Type 0} (cmp : K → K → Order) (key : K) where

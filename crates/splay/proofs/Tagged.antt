@@ -2,20 +2,20 @@
 use mathlib.Core.Bool.{false}
 use mathlib.Core.List.{List}
 use mathlib.Core.Logic.{⊎-elim}
-use mathlib.Core.Path.{_≡_, refl, sym, ap, _∙_, subst}
+use mathlib.Core.Path.{_≡_, refl, ap, _∙_, subst}
 use Prim.Native.Nat.{ℕ, zero, suc, _+_, _*_, _≤_, _<_}
 use native.Mathlib.Nat.{eq-zero-or-pos}
 use native.Mathlib.Omega.{arith}
 use lib.ListN.{length, getD, set, length-set}
 use Rattle.rules.specs.Order.{Side, left, right, other, Order, equal, toward, is-toward, by-number}
 use Rattle.rules.specs.Edition.{tags}
-use Rattle.rules.specs.Tree.{Tree, times, size, link-to}
-use Rattle.rules.proofs.Order.{Says, order-from, order-says}
+use Rattle.rules.specs.Tree.{Tree, times, size}
+use Rattle.rules.proofs.Order.{order-from, order-says}
 use Rattle.rules.proofs.Held.{tree-from, tree-from-holds}
 use Rattle.rules.proofs.Pigeons.{few}
 use Rattle.node.specs.Stands.{off, Stands, Kept}
-use Rattle.node.proofs.Memory.{link-on, Relinked}
-use Rattle.node.proofs.Tags.{off-low, slots, key-word, link-word, relinked-at, kept-refl, kept-trans, kept-set}
+use Rattle.node.proofs.Memory.{Relinked}
+use Rattle.node.proofs.Tags.{slots, key-word, link-word, relinked-at, kept-refl, kept-trans, kept-set}
 use Rattle.splay.specs.Moves.{rotated}
 use Rattle.splay.proofs.Paths.{Hung, alone, joined}
 use Rattle.splay.proofs.Walk.{In-tree, Key-read, Link-read, Rotated}

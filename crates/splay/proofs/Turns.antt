@@ -1,22 +1,22 @@
 -- The turns of the splay's loop, over words: the loop's invariant, the ways out of a turn, and what is stored at the end.
-use mathlib.Core.Bool.{true, false}
+use mathlib.Core.Bool.{false}
 use mathlib.Core.List.{List}
-use mathlib.Core.Path.{_≡_, refl, sym, ap, _∙_, subst}
-use Prim.Native.Nat.{ℕ, suc, _+_, _*_, _≤_, _<_}
+use mathlib.Core.Path.{_≡_, sym, subst}
+use Prim.Native.Nat.{ℕ, _+_, _*_, _≤_, _<_}
 use native.Mathlib.Omega.{arith}
-use lib.ListN.{length, getD, set, length-set}
-use Rattle.rules.specs.Order.{Side, left, right, other, Order, equal, toward, is-toward, by-number}
+use lib.ListN.{length, getD, set}
+use Rattle.rules.specs.Order.{Side, left, right, other, equal, toward, is-toward, by-number}
 use Rattle.rules.specs.Edition.{tags}
-use Rattle.rules.specs.Tree.{Tree, times, size, link-to}
+use Rattle.rules.specs.Tree.{Tree, times, size}
 use Rattle.rules.specs.Splay.{splay}
 use Rattle.rules.proofs.Held.{tree-from}
 use Rattle.rules.proofs.Splay.{splay-weighs}
-use Rattle.node.specs.Stands.{off, Stands, Kept, Changed}
+use Rattle.node.specs.Stands.{off, Stands, Kept}
 use Rattle.node.proofs.Tags.{slots, relinked-at, kept-refl, kept-trans, kept-set}
 use Rattle.splay.specs.Moves.{rotated, Became}
 use Rattle.splay.proofs.Paths.{Hung}
 use Rattle.splay.proofs.Walk.{In-tree, Rotated}
-use Rattle.splay.proofs.Steps.{Walking, Stopped, Linkable, walking-lr, walking-rl, stopped-rl, walking-in, walking-count, stop-none, child-in, stop-equal, Seen2, see2, link-plain, stop-risen, link-risen, linkable-in, linkable-end, advance, advance-less, stopped-in, stopped-right-end, stopped-left-end, begin}
+use Rattle.splay.proofs.Steps.{Walking, Stopped, Linkable, walking-lr, walking-rl, walking-in, walking-count, stop-none, child-in, stop-equal, Seen2, see2, link-plain, stop-risen, link-risen, linkable-in, linkable-end, advance, advance-less, stopped-in, stopped-right-end, stopped-left-end, begin}
 use Rattle.splay.proofs.Finish.{finish}
 use Rattle.splay.proofs.Tagged.{key-read, link-read, hung-at, hung-kept, rotated-at, rotated-kept, stands-few, stands-read, in-words, in-pos}
 

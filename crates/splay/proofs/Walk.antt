@@ -1,18 +1,15 @@
 -- The walk of the splay in any memory: what holds at the loop's head, before a link and at the stop, for either side.
-use mathlib.Core.Bool.{Bool, true, false}
 use mathlib.Core.List.{List, [], _∷_}
-use mathlib.Core.Path.{_≡_, refl, sym, ap, _∙_}
-use Prim.Native.Nat.{ℕ, suc, _+_, _*_, _≤_, _<_}
+use mathlib.Core.Path.{_≡_, sym, ap, _∙_}
+use Prim.Native.Nat.{ℕ, suc, _+_, _≤_, _<_}
 use native.Mathlib.Omega.{arith}
-use Rattle.rules.specs.Order.{Side, left, right, other, Order, equal, toward, is-toward}
-use Rattle.rules.specs.Tree.{Entry, Tree, none, node, fork, hang, hit, times, weigh, size, link-to}
-use Rattle.rules.specs.Splay.{Gathered, Splayed, nothing, tick, join, assemble, splay}
+use Rattle.rules.specs.Order.{Side, left, right, other}
+use Rattle.rules.specs.Tree.{Entry, Tree, none, node, fork, hit, times, weigh, link-to}
 use Rattle.rules.specs.Arena.{Slot, Holds}
 use Rattle.rules.proofs.Hit.{hit-same}
-use Rattle.rules.proofs.Splay.{Real, fork-real, weigh-fork, Splays, equal-stop, no-child, rotate-stop, rotate-link, link-fork, splay-only}
-use Rattle.rules.proofs.Held.{tree-from, tree-from-holds}
-use Rattle.node.proofs.Memory.{on, link-on, on-key, on-near, on-far, fork-link, times-fork, fork-held, held-fork, by-fork, no-link, Same, same-trans, same-more, holds-same, Relinked, relinked-same, relinked-near, relinked-far, rotate-same, rotate-holds}
-use Rattle.splay.proofs.Paths.{Frame, gap, top-link, plug, weigh-path, times-path, Holds-path, path-same, plug-holds, plug-link, plug-weigh, hang-gap, gather, gather-tick, gather-join, Hung, Filled, fill}
+use Rattle.rules.proofs.Splay.{Real, weigh-fork}
+use Rattle.node.proofs.Memory.{on, link-on, on-key, on-near, on-far, fork-link, times-fork, held-fork, Same, same-trans, same-more, holds-same, Relinked, rotate-same, rotate-holds}
+use Rattle.splay.proofs.Paths.{Frame, gap, top-link, weigh-path, times-path, Holds-path, path-same, Hung, fill}
 
 module _ {K : Type 0} where
   -- What the slots hold on the way: the tree t at the link x, and the two trees under construction, with their ends and tops.

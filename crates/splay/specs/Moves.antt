@@ -1,9 +1,8 @@
 -- A rotation in words, an end of a tree that rises to the root, and a tree without its root.
 use mathlib.Core.List.{List}
-use mathlib.Core.Path.{_≡_}
 use Prim.Native.Nat.{ℕ, _+_, _*_, _<_}
 use lib.ListN.{getD, set}
-use Rattle.rules.specs.Order.{Side, left, right, other, Order, of-side}
+use Rattle.rules.specs.Order.{Side, Order, of-side}
 use Rattle.rules.specs.Edition.{tags}
 use Rattle.rules.specs.Tree.{Entry, Tree, none, node, fork, times}
 use Rattle.rules.specs.Splay.{Splayed, splay}

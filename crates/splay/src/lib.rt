@@ -3,8 +3,8 @@
 use node::put;
 use node::word;
 ghost use mathlib.Core.Path.{_≡_};
-ghost use Prim.Native.Nat.{ℕ, _+_, _*_, _<_, _≤_};
-ghost use lib.ListN.{length, getD, set};
+ghost use Prim.Native.Nat.{ℕ, _+_, _*_, _<_};
+ghost use lib.ListN.{length, set};
 ghost use Rattle.rules.specs.Edition.{tags};
 ghost use Rattle.rules.specs.Tree.{Tree};
 ghost use Rattle.rules.specs.Splay.{splay};

@@ -1,5 +1,5 @@
 -- `map::make` meets its contract.
-use mathlib.Core.Path.{_≡_, sym, _∙_}
+use mathlib.Core.Path.{sym, _∙_}
 use native.Mathlib.Omega.{arith}
 use borrow.Author.Needs.{needs}
 use Rattle.map.proofs.Called.{made, made-short, made-none, made-large}

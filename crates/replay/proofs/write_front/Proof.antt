@@ -1,7 +1,6 @@
 -- `replay::write_front` is safe and ends. Assumes nothing.
 use mathlib.Core.Path.{sym}
 use lib.Seq.{length-take-le}
-use lib.ListN.{length}
 use borrow.Author.Needs.{needs}
 use Rattle.replay.proofs.write_front.Statement.{statement}
 use Rattle.replay.proofs.write_front.Tie as tie

@@ -1,5 +1,5 @@
 -- `splay::hang` meets its contract.
-use mathlib.Core.Path.{_≡_, refl}
+use mathlib.Core.Path.{refl}
 use native.Mathlib.Omega.{arith}
 use borrow.Author.Needs.{needs}
 use Rattle.splay.proofs.hang.Statement.{statement}

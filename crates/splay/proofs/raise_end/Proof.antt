@@ -1,13 +1,13 @@
 -- `splay::raise_end` meets its contract. The measure is the size of what is left on the side of the end.
-use mathlib.Core.Path.{_≡_, sym, ap, ap₂, _∙_, subst}
-use Prim.Native.Nat.{ℕ, _+_, _*_, _<_, _≤_}
+use mathlib.Core.Path.{_≡_, sym, ap, ap₂, _∙_}
+use Prim.Native.Nat.{ℕ, _+_, _*_, _<_}
 use native.Mathlib.Omega.{arith}
-use lib.ListN.{length, getD}
+use lib.ListN.{getD}
 use Rattle.rules.specs.Order.{other}
-use Rattle.rules.specs.Tree.{Tree, size}
+use Rattle.rules.specs.Tree.{size}
 use Rattle.node.specs.Stands.{off, side-of}
 use Rattle.node.proofs.Tags.{off-low}
-use Rattle.splay.specs.Moves.{rotated, Became, end-risen}
+use Rattle.splay.specs.Moves.{rotated}
 use Rattle.splay.proofs.Tagged.{stands-read}
 use Rattle.splay.proofs.Turns.{read-off}
 use Rattle.splay.proofs.Raise.{near, Raising, raise-begin, raise-in, raise-stop, raise-turn}

@@ -1,5 +1,4 @@
 -- `splay::rotate` meets its contract.
-use mathlib.Core.Path.{_≡_}
 use borrow.Author.Needs.{needs}
 use Rattle.splay.proofs.rotate.Statement.{statement}
 use Rattle.splay.proofs.rotate.Tie as tie

@@ -1,13 +1,11 @@
 -- `splay::splay` meets its contract. At the loop's head the walk goes on (`Going`), at a break it has halted (`Halted`), and where the two
 -- ways to a link meet there is one record (`Linking`). The measure is the size of the tree at the node.
-use mathlib.Core.List.{List}
 use mathlib.Core.Logic.{⊎-elim}
-use mathlib.Core.Path.{_≡_, refl, sym, ap, _∙_, subst}
-use Prim.Native.Nat.{ℕ, _+_, _*_, _<_, _≤_}
+use mathlib.Core.Path.{_≡_, sym, _∙_}
+use Prim.Native.Nat.{_+_, _*_, _<_}
 use native.Mathlib.Omega.{arith}
-use lib.ListN.{length, getD}
-use Rattle.rules.specs.Order.{Side, left, right, equal, toward, by-number}
-use Rattle.rules.specs.Tree.{Tree, size}
+use lib.ListN.{length}
+use Rattle.rules.specs.Order.{left, right, equal, toward, by-number}
 use Rattle.rules.specs.Splay.{splay}
 use Rattle.rules.proofs.Order.{order-from}
 use Rattle.splay.specs.Moves.{Became}

@@ -1,6 +1,5 @@
 -- `splay::without_root` meets its contract.
-use mathlib.Core.Path.{_≡_, sym, _∙_}
-use Prim.Native.Nat.{ℕ, _+_, _*_, _<_, _≤_}
+use mathlib.Core.Path.{sym, _∙_}
 use native.Mathlib.Omega.{arith}
 use borrow.Author.Needs.{needs}
 use Rattle.splay.proofs.Standing.{root-in, gone-right, left-somewhere, top-in, gone}

@@ -1,5 +1,4 @@
 -- `commands::answer::entry` meets its contract.
-use mathlib.Core.Path.{_≡_}
 use borrow.Author.Needs.{needs}
 use Rattle.commands.proofs.answer.entry.Statement.{statement}
 use Rattle.commands.proofs.answer.entry.Tie as tie

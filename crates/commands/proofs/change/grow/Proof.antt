@@ -1,16 +1,13 @@
 -- `commands::change::grow` meets its contract.
-use mathlib.Core.Path.{_≡_, refl, sym, _∙_}
-use Prim.Native.Nat.{ℕ, _+_, _*_, _<_}
+use mathlib.Core.Path.{_≡_, refl, _∙_}
+use Prim.Native.Nat.{_+_, _*_, _<_}
 use native.Mathlib.Omega.{arith}
 use borrow.Author.Needs.{needs}
 use lib.ListN.{length, getD}
 use Rattle.rules.specs.Order.{left, right, toward}
-use Rattle.rules.specs.Edition.{tags}
-use Rattle.rules.specs.Perform.{State}
-use Rattle.rules.specs.Arena.{WellFormed}
 use Rattle.rules.proofs.Order.{order-from}
 use Rattle.splay.proofs.Tagged.{right-of}
-use Rattle.commands.proofs.Grow.{Free, free-there, grew-first, old-root, grew-beside}
+use Rattle.commands.proofs.Grow.{free-there, grew-first, old-root, grew-beside}
 use Rattle.commands.proofs.change.grow.Statement.{statement}
 use Rattle.commands.proofs.change.grow.Tie as tie
 

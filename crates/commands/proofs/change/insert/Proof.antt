@@ -1,10 +1,8 @@
 -- `commands::change::insert` meets its contract.
-use mathlib.Core.Path.{_≡_}
-use Prim.Native.Nat.{ℕ, _+_, _*_, _<_}
+use Prim.Native.Nat.{_+_, _*_, _<_}
 use native.Mathlib.Omega.{arith}
 use borrow.Author.Needs.{needs}
 use lib.ListN.{length}
-use Rattle.rules.specs.Edition.{tags}
 use Rattle.rules.specs.Perform.{perform}
 use Rattle.commands.proofs.Present.{is-here, root-inside}
 use Rattle.commands.proofs.Added.{insert-here, not-here, insert-full, insert-new}

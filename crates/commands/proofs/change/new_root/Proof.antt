@@ -1,6 +1,5 @@
 -- `commands::change::new_root` meets its contract.
-use mathlib.Core.Path.{_≡_, ap, _∙_}
-use native.Mathlib.Omega.{arith}
+use mathlib.Core.Path.{_∙_}
 use borrow.Author.Needs.{needs}
 use lib.ListN.{length-set}
 use Rattle.commands.proofs.change.new_root.Statement.{statement}

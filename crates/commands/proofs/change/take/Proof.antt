@@ -1,5 +1,5 @@
 -- `commands::change::take` meets its contract.
-use mathlib.Core.Path.{_≡_, refl, ap, _∙_}
+use mathlib.Core.Path.{refl, ap, _∙_}
 use Prim.Native.Nat.{ℕ, _+_, _*_, _<_}
 use native.Mathlib.Omega.{arith}
 use borrow.Author.Needs.{needs}
@@ -9,7 +9,7 @@ use Rattle.rules.specs.Order.{other}
 use Rattle.rules.specs.Edition.{tags}
 use Rattle.rules.specs.Perform.{State}
 use Rattle.rules.specs.Arena.{WellFormed}
-use Rattle.node.specs.Stands.{off, side-of}
+use Rattle.node.specs.Stands.{side-of}
 use Rattle.node.proofs.Tags.{off-low}
 use Rattle.splay.specs.Moves.{Became, end-risen}
 use Rattle.commands.proofs.Root.{tree-stands, tree-somewhere}

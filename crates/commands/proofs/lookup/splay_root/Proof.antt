@@ -1,5 +1,5 @@
 -- `commands::lookup::splay_root` meets its contract.
-use mathlib.Core.Path.{_≡_, refl}
+use mathlib.Core.Path.{refl}
 use borrow.Author.Needs.{needs}
 use Rattle.commands.proofs.Root.{tree-stands, tree-somewhere, splay-settles}
 use Rattle.commands.proofs.lookup.splay_root.Statement.{statement}

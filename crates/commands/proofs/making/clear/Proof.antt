@@ -1,5 +1,5 @@
 -- `commands::making::clear` meets its contract: N and the size are read off the header before the new arena takes its place.
-use mathlib.Core.Path.{_≡_, ap, _∙_, subst}
+use mathlib.Core.Path.{ap, _∙_, subst}
 use Prim.Native.Nat.{ℕ}
 use borrow.Author.Needs.{needs}
 use Rattle.rules.specs.Edition.{tags}

@@ -1,15 +1,13 @@
 -- `lines::stream::serve` meets its contract. The measure is how many bytes of the input are left.
 -- Assumes nothing.
-use mathlib.Core.Path.{_≡_, refl, _∙_, ap}
+use mathlib.Core.Path.{_≡_, refl, _∙_}
 use Prim.Native.Nat.{ℕ, _-_}
 use native.Mathlib.Omega.{arith}
 use lib.ListN.{length}
-use borrow.Author.Needs.{needs}
 use borrow.Author.Tests.{leb-true, leb-false}
 use Rattle.rules.specs.Edition.{tags}
 use Rattle.rules.specs.Perform.{State}
 use Rattle.rules.specs.Arena.{WellFormed}
-use Rattle.lines.specs.declared.stream.Fed.{Fed}
 use Rattle.lines.proofs.Onward.{Reached, begun, reach, over-now, no-byte, no-room}
 use Rattle.lines.proofs.stream.serve.Statement.{statement}
 use Rattle.lines.proofs.stream.serve.Tie as tie

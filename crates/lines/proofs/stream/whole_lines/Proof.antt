@@ -1,6 +1,5 @@
 -- `lines::stream::whole_lines` meets its contract. The measure is how much room is left.
 -- Assumes nothing.
-use mathlib.Core.Bool.{true}
 use mathlib.Core.List.{List}
 use mathlib.Core.Option.{some}
 use mathlib.Core.Path.{_≡_, refl, sym, _∙_, ap}
