@@ -45,18 +45,6 @@ same-length-3 c = c .before .before .loop .inv .2
 returns : tie.Need-returns Inv-loop μ-loop
 returns c = tt
 
-same-length-4 : tie.Need-same-length-4 Inv-loop μ-loop
-same-length-4 c = c .before .loop .inv .0
-
-same-length-5 : tie.Need-same-length-5 Inv-loop μ-loop
-same-length-5 c = c .before .loop .inv .1
-
-same-length-6 : tie.Need-same-length-6 Inv-loop μ-loop
-same-length-6 c = c .before .loop .inv .2
-
-returns-2 : tie.Need-returns-2 Inv-loop μ-loop
-returns-2 c = tt
-
 pub run-spec : {M : Type 1} → statement M
 run-spec =
     tie.close
@@ -72,8 +60,4 @@ run-spec =
     same-length
     same-length-2
     same-length-3
-    returns
-    same-length-4
-    same-length-5
-    same-length-6
-    returns-2)
+    returns)
