@@ -4,7 +4,7 @@ ghost use mathlib.Core.Path.{_≡_};
 ghost use Prim.Native.Nat.{_+_, _*_, _<_};
 ghost use lib.ListN.{length, getD};
 
-// "An answer is four words: code, key, value, comparisons."
+// "An answer has four words: a code, a key, a value and the count."
 pub struct Answer {
     pub code: u32,
     pub key: u32,

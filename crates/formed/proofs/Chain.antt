@@ -88,7 +88,7 @@ module _ {K : Type 0} (ed : Edition K) (w : List ℕ) (n : ℕ) where
             there c h
         by false q = refused (λ r. eqb-false count 0 q (none-left (r .0) (r .1)))
 
--- A slot is free where its words say so: "key 0, value 0, right = M".
+-- A slot is free where its words say so: "key 0, value 0", and "M on its right".
 pub record FreeWords (w : List ℕ) (x : ℕ) : Type 0 where
   pub key : getD w (4 * x + 0) 0 ≡ 0
   pub value : getD w (4 * x + 1) 0 ≡ 0

@@ -12,7 +12,7 @@ use Rattle.rules.specs.Arena.{place, WellFormed}
 use Rattle.formed.specs.Verdict.{Tells, there, nowhere, TreeStands, ChainStands}
 
 module _ {K : Type 0} (ed : Edition K) (w : List ℕ) where
-  -- "Its length is at least 4 and at least 4+4N, N in range; size at most N."
+  -- "It has at least 4 words, N is from 1 to 4,095, and it has at least 4+4N words"; and the size is at most N.
   pub record Header : Type 0 where
     pub some-slot : 1 ≤ getD w 0 0
     pub in-range : getD w 0 0 ≤ most-slots

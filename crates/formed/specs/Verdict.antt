@@ -1,4 +1,5 @@
--- What a test answers: whether anything has a property. And the three properties that the check of an arena asks for, in document 01's words.
+-- What a test answers: whether anything has a property. And the three properties that the check of an arena asks for, in the words of
+-- docs/RULES.md.
 use mathlib.Core.Bool.{Bool, true, false}
 use mathlib.Core.List.{List}
 use mathlib.Core.Path.{_≡_}
@@ -15,8 +16,8 @@ pub data Tells {A : Type 0} (P : A → Type 0) : Bool → Type 0 where
   nowhere : ((a : A) → ¬ P a) → Tells P false
 
 module _ {K : Type 0} (ed : Edition K) (w : List ℕ) (n : ℕ) where
-  -- "From the root all links are at most N, no slot is met twice, the nodes number exactly the size, and keys strictly ascend from left
-  -- to right."
+  -- "All links that are met from the root on are at most N." "No slot is met twice from the root on." "The nodes that are met are as many
+  -- as the size says." "The nodes' keys strictly ascend from left to right."
   pub record TreeStands (root count : ℕ) (t : Tree K) : Type 0 where
     pub at : root ≡ link-to t
     pub nodes : Holds (slot-at ed w) t
@@ -25,13 +26,13 @@ module _ {K : Type 0} (ed : Edition K) (w : List ℕ) (n : ℕ) where
     pub number : size t ≡ count
     pub ascending : Ascending ed (entries t)
 
-  -- "The free chain's links are at most N and it ends with 0 after exactly N minus size slots", each free.
+  -- "The chain's links are at most N, each slot that it meets is free, and it ends with a link of 0 after exactly N minus size slots."
   pub record ChainStands (first count : ℕ) (c : List ℕ) : Type 0 where
     pub at : first ≡ first-link c
     pub chain : Chained ed (slot-at ed w) c
     pub within : (s : ℕ) → n ≤ s → listed s c ≡ 0
     pub number : length c ≡ count
 
--- "The arena is well formed", and there is a state that it holds; or it is not, and holds none.
+-- The arena is "well formed", and there is a state that it holds; or it is not, and holds none.
 abbrev pub Verdict : List ℕ → Bool → Type 0
 Verdict w r = Tells (WellFormed tags w) r

@@ -1,5 +1,5 @@
 // Lists of commands and rooms for answers at their ends, in an arena of 2 slots with four words behind it. The arenas and answers that
-// are looked for are P1 to P3 of document 01.
+// are looked for are P1 to P3 of docs/RULES.md.
 use crate::say::line;
 use crate::words::FILL;
 use crate::words::M;
@@ -85,7 +85,7 @@ fn rooms() {
     case(b"list of 6 words, room of 8", 0, 6, 8);
 }
 
-// Where several refusals fit, the first in document 01's order is given.
+// Where several refusals fit, the first in the order of docs/RULES.md is given.
 fn order() {
     case(b"damaged, list of 0 words, room of 0", 1, 0, 0);
     case(b"damaged, list of 4 words, room of 12", 1, 4, 12);

@@ -1,6 +1,6 @@
-// The limits of document 01, run through the public calls of the map: sizes and lengths at their ends, damaged arenas, lists and answer
-// rooms that are a word off, the order of the refusals. Each case writes one line: what was tried, the code that came back, and whether
-// every word that was lent is as it should be, WRONG where one is not.
+// The limits that docs/RULES.md sets, run through the public calls of the map: sizes and lengths at their ends, damaged arenas, lists and
+// answer rooms that are a word off, the order of the refusals. Each case writes one line: what was tried, the code that came back, and
+// whether every word that was lent is as it should be, WRONG where one is not.
 mod damage;
 mod front;
 mod large;

@@ -1,5 +1,5 @@
-// FULL and UNKNOWN do not stop a run: P2 to P9 of document 01 in one list, with three numbers that are no command after the insert that is
-// answered FULL.
+// FULL and UNKNOWN do not stop a run: P2 to P9 of docs/RULES.md in one list, with three numbers that are no command after the insert that
+// is answered FULL.
 use crate::say::line;
 use crate::words::FILL;
 use crate::words::M;

@@ -33,7 +33,7 @@ pub fn fill(a: &mut [u32; 16392]) {
     }
 }
 
-// The word at `i` of a new arena of n slots: "Making an arena sets size and root 0 and chains the slots 0, 1, 2 and so on."
+// The word at `i` of a new arena of n slots: "root link and size are 0, and all slots are chained, from slot 0 upwards".
 fn new_word(n: u32, i: usize) -> u32
     requires { ⌜ i < 16392 ⌝ }
 {

@@ -1,6 +1,5 @@
--- "Where reads cut a line must not matter": calls of feed that take the whole input, cut anywhere, and then finish write what the rules
--- say of the input, and leave the words of the state that its lines leave.
--- Assumes nothing.
+-- "It makes no difference where reads cut the input": calls of feed that take the whole input, cut anywhere, and then finish write what the
+-- rules say of the input, and leave the words of the state that its lines leave. Assumes nothing.
 use mathlib.Core.Bool.{Bool, true, false}
 use mathlib.Core.List.{List, [], _∷_, _++_}
 use mathlib.Core.Path.{_≡_, refl, _∙_, ap}

@@ -64,13 +64,13 @@ ends : run-on tags as-map
 unfolding zeros hang walk splay counting new room outermost bring if-present inserted seek raise perform link-after held slot-of all-words words perform-as commands refusal perform-all all-answers
 ends = refl
 
--- "Get 2 on keys 1, 2, 3 inserted ascending" is FOUND.
+-- "A get of 2 after inserts of 1, 2 and 3" is FOUND.
 two-of-three : run-on tags as-map (5 ∷ 1 ∷ 0 ∷ 5 ∷ 2 ∷ 0 ∷ 5 ∷ 3 ∷ 0 ∷ 1 ∷ 2 ∷ 0 ∷ []) (zeros 16) (zeros 16) (new 3) .answers
     ≡ (2 ∷ 1 ∷ 0 ∷ 0 ∷ 2 ∷ 2 ∷ 0 ∷ 2 ∷ 2 ∷ 3 ∷ 0 ∷ 2 ∷ 0 ∷ 2 ∷ 0 ∷ 4 ∷ [])
 unfolding zeros hang walk splay counting new room outermost bring if-present inserted seek raise perform link-after held slot-of all-words words perform-as commands refusal perform-all all-answers
 two-of-three = refl
 
--- "A freed slot becomes the first": two keys inserted, and removed in the same order.
+-- "A slot that is freed goes to the front of the chain": two keys inserted, and removed in the same order.
 freed : run-on tags as-map (5 ∷ 1 ∷ 0 ∷ 5 ∷ 2 ∷ 0 ∷ 6 ∷ 1 ∷ 0 ∷ 6 ∷ 2 ∷ 0 ∷ []) (zeros 12) (zeros 16) (new 2) .arena
     ≡ (2 ∷ 0 ∷ 0 ∷ 2 ∷ 0 ∷ 0 ∷ 0 ∷ M ∷ 0 ∷ 0 ∷ 1 ∷ M ∷ [])
 unfolding zeros hang walk splay counting new room outermost bring if-present inserted seek raise perform link-after held slot-of all-words words perform-as commands refusal perform-all all-answers
@@ -107,7 +107,7 @@ short-stays : make tags 1 (9 ∷ []) ≡ record { returned = 11; arena = 9 ∷ [
 unfolding make
 short-stays = refl
 
--- "The program's arena has 1,024 slots, all words zero before it is made."
+-- "The arena has 1,024 slots, made in words that are all zero."
 program-arena : make tags program-slots (zeros 4100) ≡ record { returned = 0; arena = words tags (new program-slots) }
 unfolding zeros make words new counting all-words slot-of held link-after
 program-arena = refl
@@ -149,7 +149,7 @@ through-tree-run : (given : Ran) → Run tags as-map (12 ∷ 0 ∷ []) through-t
 through-tree-run given (Checked.well-formed st p e) = absurd (through-tree-damaged st p)
 through-tree-run given (damaged no-state e) = e
 
--- "A refused single command answers the code and three zeros."
+-- "A call for one command that is refused answers the code and three zeros."
 through-tree-one : (given : Replied) → One tags as-map 12 0 0 through-tree given
     → given ≡ record { answer = 12 ∷ 0 ∷ 0 ∷ 0 ∷ []; arena = through-tree }
 through-tree-one given (Checked.well-formed st p e) = absurd (through-tree-damaged st p)
@@ -172,7 +172,7 @@ unfoldable text : List String → List ℕ
 text [] = []
 text (s ∷ more) = bytes s ++ (10 ∷ text more)
 
--- "Whole case" of the line program.
+-- "A whole case" of the line program.
 whole-case : program (text ("000000050000000500000032" ∷ "000000010000000500000000" ∷ "xyz" ∷ "000000060000000700000000" ∷ []))
     ≡ text
     ("00000002000000050000000000000000"
@@ -213,7 +213,7 @@ last-line : program
 unfolding bytes text hang walk splay counting new room outermost bring if-present inserted seek raise perform digit byte-of digits number-from words-from spelled all-spelled lines-after lines line-command answer-line respond output
 last-line = refl
 
--- "No input, no output."
+-- "Without input there is no output."
 no-input : program [] ≡ []
 unfolding lines-after lines respond output
 no-input = refl

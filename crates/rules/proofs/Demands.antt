@@ -27,14 +27,14 @@ use Rattle.rules.proofs.Happened.{run-refuses, one-gives, one-told, one
 use Rattle.rules.proofs.Cut.{commands-length, answers-length, run-lengths, cut, alone}
 
 module _ {K : Type 0} (ed : Edition K) where
-  -- DEMAND 1. "A damaged arena, a ragged list or too little room is refused and no lent word changes."
+  -- DEMAND 1. "It refuses what the table of whole calls names and nothing else, and a refused call has changed no word that it was lent."
 
-  -- "10 SIZE: making with N 0 or above 4,095."
+  -- "10 SIZE": "making: N is 0 or above 4,095".
   pub demand-1-size : (n : ℕ) (w : List ℕ) → (1 ≤ n → n ≤ most-slots → ⊥)
       → make ed n w ≡ record { returned = code-number SIZE; arena = w }
   demand-1-size n w h = make-size ed n w h
 
-  -- "11 SHORT: making in fewer than 4+4N words."
+  -- "11 SHORT": "making: there are fewer than 4+4N words".
   pub demand-1-short : (n : ℕ) (w : List ℕ) → 1 ≤ n → n ≤ most-slots → length w < place ed n
       → make ed n w ≡ record { returned = code-number SHORT; arena = w }
   demand-1-short n w h k p = make-short ed n w h k p
@@ -48,7 +48,7 @@ module _ {K : Type 0} (ed : Edition K) where
   pub demand-1-make-refused : (n : ℕ) (w : List ℕ) → (make ed n w .returned ≡ accepted → ⊥) → make ed n w .arena ≡ w
   demand-1-make-refused n w h = make-refused ed n w h
 
-  -- "12 DAMAGED: the arena is not well formed": a single command answers the code and zeros, and no word of the arena changes.
+  -- "12 DAMAGED": "the arena is not well formed". A single command answers the code and zeros, and no word of the arena changes.
   pub demand-1-damaged-one : (r : Reading) (m : ℕ) (k : K) (v : ℕ) (w : List ℕ) (given : Replied)
       → ((st : State K) → ¬ WellFormed ed w st) → One ed r m k v w given
       → given ≡ record { answer = code-number DAMAGED ∷ (ed .spell (ed .zero-key) ++ (0 ∷ 0 ∷ [])); arena = w }
@@ -60,13 +60,13 @@ module _ {K : Type 0} (ed : Edition K) where
       → given ≡ record { returned = code-number DAMAGED; arena = w; answers = buffer }
   demand-1-damaged-run r cs w buffer given no-state h = checked-damaged ed no-state h
 
-  -- "13 RAGGED: command words not a multiple of 3" (of the words that a command takes).
+  -- "13 RAGGED": "the number of command words is no multiple of 3" (of the words that a command takes).
   pub demand-1-ragged : (r : Reading) (cs w buffer : List ℕ) (given : Ran) (st : State K) → WellFormed ed w st
       → (length cs % command-size ed ≡ 0 → ⊥) → Run ed r cs w buffer given
       → given ≡ record { returned = code-number RAGGED; arena = w; answers = buffer }
   demand-1-ragged r cs w buffer given st a h g = run-refuses ed r cs RAGGED a (refusal-ragged ed cs (length buffer) h) g
 
-  -- "14 NO ROOM: fewer than 4 answer words per command" (than the words that an answer takes).
+  -- "14 NO ROOM": "there are fewer than 4 answer words for each command" (than the words that an answer takes).
   pub demand-1-no-room : (r : Reading) (cs w buffer : List ℕ) (given : Ran) (st : State K) → WellFormed ed w st
       → length cs % command-size ed ≡ 0 → length buffer < answer-size ed * how-many ed cs → Run ed r cs w buffer given
       → given ≡ record { returned = code-number NO-ROOM; arena = w; answers = buffer }
@@ -99,7 +99,7 @@ module _ {K : Type 0} (ed : Edition K) where
       λ no-state. rw (checked-damaged ed no-state g),
     )
 
-    -- No call makes the arena or the answer buffer longer or shorter.
+    -- "No length changes", of the arena or of the answer buffer.
     pub demand-1-one-lengths : (r : Reading) (m : ℕ) (k : K) (v : ℕ) (w : List ℕ) (given : Replied) → One ed r m k v w given
         → length (given .arena) ≡ length w
     demand-1-one-lengths r m k v w given (well-formed st a e) = one-gives ed laws r m k v a (well-formed st a e) .1 .as-long
@@ -109,7 +109,7 @@ module _ {K : Type 0} (ed : Edition K) where
         → (length (given .arena) ≡ length w) × (length (given .answers) ≡ length buffer)
     demand-1-run-lengths r cs w buffer given g = run-lengths ed laws r cs g
 
-    -- "An empty run on a well-formed arena is accepted and changes nothing."
+    -- "A run of no commands on a well-formed arena is accepted and changes nothing."
     pub demand-1-empty-run : (r : Reading) (w buffer : List ℕ) (given : Ran) (st : State K) → WellFormed ed w st → Run ed r [] w buffer given
         → given ≡ record { returned = accepted; arena = w; answers = buffer }
     unfolding commands perform-all all-answers
@@ -117,8 +117,9 @@ module _ {K : Type 0} (ed : Edition K) where
         checked-formed ed a g
         ∙ rw (refusal-empty ed (length buffer), zero-div (command-size ed), mul-zero (answer-size ed), ← the-words ed laws w a)
 
-    -- DEMAND 2. "Each command gives the entry, answer and comparison count that the rules give; the tree after each command is, word for
-    -- word, that of the rules." The rules are `perform`, as the map or the set reads the command.
+    -- DEMAND 2. "On a well-formed arena a command gives the entry, the answer and the count that the Rust gives, and the tree after each
+    -- command is, word for word, the tree of these rules." The rules are `perform`, as the map or the set reads the command; that the Rust
+    -- gives the same is tried (docs/DIFFERENCES.md), and no theorem.
 
     -- A single command on an arena that holds the state st: every word of its answer, and every word that it leaves.
     pub demand-2-one : (r : Reading) (m : ℕ) (k : K) (v : ℕ) (w : List ℕ) (given : Replied) (st : State K) → WellFormed ed w st
@@ -151,14 +152,15 @@ module _ {K : Type 0} (ed : Edition K) where
     pub demand-2-words : (w : List ℕ) (st : State K) → WellFormed ed w st → w ≡ over ed st w
     demand-2-words w st a = the-words ed laws w a
 
-    -- DEMAND 3. "From a newly made arena of N slots, any list of calls, single commands and runs cut anywhere, accepted or refused, whose
-    -- arena only these calls wrote; the set's reading of a command has its place."
+    -- DEMAND 3. "Take an arena newly made with N slots and any calls on it, single commands and runs, of the map or of the set, accepted or
+    -- refused, in any order, with nobody else writing to it."
     module _ (n : ℕ) (w₀ : List ℕ) (calls : List (Call K)) (gave : List Given) (w : List ℕ) (h : History ed n w₀ calls gave w) where
-      -- "The arena holds exactly those entries in ascending order; every other slot has zero key and value, is on the chain exactly once."
+      -- "The arena holds exactly the live entries, in ascending order; every other slot has key 0 and value 0 and is on the chain exactly
+      -- once".
       pub demand-3-holds : Holding ed n (live ed n calls []) w
       demand-3-holds = all-steps ed laws (new-holds ed laws n w₀ (h .made)) (h .happened) .0
 
-      -- "Every answer's code, key and value follow from them, N and the command."
+      -- "Code, key and value of every answer follow from the live entries, N and the command".
       pub demand-3-answers : Follow ed n [] calls gave
       demand-3-answers = all-steps ed laws (new-holds ed laws n w₀ (h .made)) (h .happened) .1
 
@@ -180,8 +182,8 @@ module _ {K : Type 0} (ed : Edition K) where
           → given .returned ≡ code-number DAMAGED → ⊥
       demand-3-run-undamaged r cs buffer given g = run-told ed laws r cs (demand-3-holds .formed) g
 
-      -- "A new key is refused as FULL exactly when the live keys number the slots, however many have come and gone"; otherwise it is NEW:
-      -- a free slot "is usable again".
+      -- "A key that is not live is refused as FULL exactly when N entries are live, however many have come and gone"; otherwise it is NEW:
+      -- a free slot "can be used again".
       pub demand-3-full : (r : Reading) (k : K) (v : ℕ) (given : Replied) → find ed k (live ed n calls []) ≡ nil → One ed r 5 k v w given
           → ((getD (given .answer) 0 0 ≡ code-number FULL) ↔ (length (live ed n calls []) ≡ n))
           × ((getD (given .answer) 0 0 ≡ code-number NEW) ↔ (length (live ed n calls []) ≡ n → ⊥))
@@ -216,8 +218,8 @@ module _ {K : Type 0} (ed : Edition K) where
         let x = happened-parts ed before rest (h .happened) in
         (x .0, x .1, x .2, x .3, record { made = h .made; happened = x .4 }, x .5)
 
-    -- RUNS CUT ANYWHERE. Two accepted runs after each other give the answers of one run of all their commands, where that has room for
-    -- them, and leave the same words.
+    -- RUNS CUT ANYWHERE. "The answers and the words left are the same": two accepted runs after each other give the answers of one run of
+    -- all their commands, where that has room for them, and leave the same words.
     pub cut-anywhere : (r : Reading) (cs ds w b b₁ b₂ : List ℕ) (given given₁ given₂ : Ran)
         → Run ed r cs w b₁ given₁ → given₁ .returned ≡ accepted → Run ed r ds (given₁ .arena) b₂ given₂ → given₂ .returned ≡ accepted
         → Run ed r (cs ++ ds) w b given → answer-size ed * how-many ed (cs ++ ds) ≤ length b
@@ -239,7 +241,7 @@ module _ {K : Type 0} (ed : Edition K) where
     cut-single r m k v w b given given′ st a g g′ room = alone ed laws r m k v a room g g′
 
 module _ {K : Type 0} (ed : Edition K) where
-  -- NO SECOND OUTCOME. "For every input, refusals too, a call's contract determines the answer and each word of arena and answer buffer."
+  -- NO SECOND OUTCOME. "For every input, a refused one too, its contract leaves one answer and one content of each lent word."
   pub one-outcome-one : (r : Reading) (m : ℕ) (k : K) (v : ℕ) (w : List ℕ) (given given′ : Replied) → One ed r m k v w given
       → One ed r m k v w given′ → given ≡ given′
   one-outcome-one r m k v w given given′ g g′ = one-outcome ed g g′

@@ -1,4 +1,4 @@
--- "An absent key leaves at the root the last node of the plain search path"; a present key does too, its own node.
+-- "The new root is the last node of the plain search path for the key", whether the key is there or not.
 use mathlib.Core.List.{List, [], _∷_}
 use mathlib.Core.Option.{Option, none as nil, some}
 use mathlib.Core.Path.{_≡_, refl, _∙_}

@@ -1,4 +1,4 @@
--- The splay as rules, one for each way that a step of document 01 can go, for arguments by induction: the function obeys them, and
+-- The splay as rules, one for each way that a step can go, for arguments by induction: the function obeys them, and
 -- they give nothing else. Then what the splay keeps: the entries in order, and every slot.
 use mathlib.Core.Bool.{Bool, true, false}
 use mathlib.Core.List.{List, _++_, append-assoc, append-nil}

@@ -1,4 +1,4 @@
--- The twelve arenas of document 01, every answer and every word, by computation.
+-- The twelve arenas of docs/RULES.md, every answer and every word, by computation.
 use mathlib.Core.Path.{_≡_, refl}
 use Rattle.rules.specs.Tree.{hang}
 use Rattle.rules.specs.Splay.{walk, splay}

@@ -41,7 +41,7 @@ module _ {K : Type 0} (ed : Edition K) where
         ascending = a .ascending;
       }
 
-  -- "Size, root and first free link at most N."
+  -- "The root link, the size and the first free link are at most N."
   pub header-within : {w : List ℕ} {st : State K} → WellFormed ed w st
       → (link-to (st .tree) ≤ st .slots) × (size (st .tree) ≤ st .slots) × (first-link (st .free) ≤ st .slots)
   header-within {w} {st} a = (

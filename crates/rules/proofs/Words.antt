@@ -175,7 +175,7 @@ module _ {K : Type 0} (ed : Edition K) (laws : Lawful ed) where
       same : (s : ℕ) → 1 ≤ times s (st .tree) + listed s (st .free) → slot-at ed (over ed st w) s ≡ slot-of ed st s
       same s b = let k : st .slots ≤ s → ⊥ = (λ k. omega (arith, a .outside s k)) in slot-over st w s (omega arith)
 
-  -- "Words from 4+4N on are never written, and nothing depends on them": whatever stands there, the arena is well formed with the same
+  -- "No call writes these words or depends on them": whatever stands behind the last slot, the arena is well formed with the same
   -- state.
   pub any-tail : (a b c : List ℕ) {st : State K} → length a ≡ place ed (st .slots)
       → WellFormed ed (a ++ b) st → WellFormed ed (a ++ c) st

@@ -1,4 +1,4 @@
--- "The arena's words": what they are for a state, and when words are a well-formed arena.
+-- The arena's words: what they are for a state, and when words are a well-formed arena.
 use mathlib.Core.List.{List, [], _∷_, _++_}
 use mathlib.Core.Option.{Option, none as nil, some}
 use mathlib.Core.Path.{_≡_}
@@ -11,7 +11,7 @@ use Rattle.rules.specs.Live.{or-else, Ascending}
 use Rattle.rules.specs.Tree.{Entry, Tree, none, node, size, times, hit, link-to, entries}
 use Rattle.rules.specs.Perform.{State, counting}
 
--- What stands in a slot: "key, value, left link, right link".
+-- What stands in a slot: "its key, its value, its left link, its right link".
 pub record Slot (K : Type 0) : Type 0 where
   pub key : K
   pub value : ℕ
@@ -48,11 +48,11 @@ module _ {K : Type 0} where
   Holds at (node e l r) = (at (e .slot) ≡ content e l r) × Holds at l × Holds at r
 
 module _ {K : Type 0} (ed : Edition K) where
-  -- "A free slot holds key 0, value 0, left = next free link, right = M."
+  -- "A free slot has key 0, value 0, the next free link on its left, and M on its right."
   abbrev pub free-slot : ℕ → Slot K
   free-slot next = record { key = ed .zero-key; value = 0; left = next; right = M }
 
-  -- The slots hold the chain: each of its slots is free, with the link to the next, and the last has 0.
+  -- The slots hold the chain: each of its slots is free, with the link to the next, and the last "ends with a link of 0".
   abbrev pub Chained : (ℕ → Slot K) → List ℕ → Type 0
   Chained at [] = Unit {0}
   Chained at (s ∷ more) = (at s ≡ free-slot (first-link more)) × Chained at more
@@ -72,7 +72,7 @@ module _ {K : Type 0} (ed : Edition K) where
   all-words st [] = []
   all-words st (s ∷ more) = slot-words (slot-of st s) ++ all-words st more
 
-  -- "Word 0: N, the slots. Word 1: root link. Word 2: size. Word 3: first free link." Then the slots.
+  -- Word 0: "N, the number of slots". Word 1: "the root link". Word 2: "the size". Word 3: "the first free link". Then the slots.
   unfoldable pub words : State K → List ℕ
   words st =
       st .slots
@@ -81,7 +81,7 @@ module _ {K : Type 0} (ed : Edition K) where
       ∷ first-link (st .free)
       ∷ all-words st (counting (st .slots) 0)
 
-  -- "Slot s (from 0) is words 4+4s to 7+4s": 4 words of header, and a slot takes three words more than a key.
+  -- "4+4s to 7+4s": slot s. There are 4 words of header, and a slot takes three words more than a key.
   abbrev pub slot-size : ℕ
   slot-size = 3 + ed .width
 
@@ -104,31 +104,31 @@ module _ {K : Type 0} (ed : Edition K) where
   abbrev pub slot-at : List ℕ → ℕ → Slot K
   slot-at w s = slot-from w (place s)
 
-  -- "Words from 4+4N on are never written."
+  -- "4+4N and beyond": "no call writes these words".
   abbrev pub over : State K → List ℕ → List ℕ
   over st w = words st ++ drop (place (st .slots)) w
 
-  -- The words w are a well-formed arena, and st is what it holds. "An arena is well formed when ..
+  -- "An arena is well formed": the words w are, and st is what they hold.
   pub record WellFormed (w : List ℕ) (st : State K) : Type 0 where
-    -- .. its length is at least 4 and at least 4+4N, N in range; (4+4N is never below 4)
+    -- "It has at least 4 words, N is from 1 to 4,095, and it has at least 4+4N words." (4+4N is never below 4.)
     pub slots : getD w 0 0 ≡ st .slots
     pub long : place (st .slots) ≤ length w
     pub some-slot : 1 ≤ st .slots
     pub in-range : st .slots ≤ most-slots
-    -- size, root and first free link at most N; (they are the tree's and the chain's, so that they are at most N follows: `header-within`
-    -- in proofs/WellFormed.antt; and as word 2 is the tree's size, "the nodes number exactly the size")
+    -- "The root link, the size and the first free link are at most N." They are the tree's and the chain's here, so that they are at most N
+    -- follows: `header-within` in proofs/WellFormed.antt. "The nodes that are met are as many as the size says": word 2 is the tree's size.
     pub root : getD w 1 0 ≡ link-to (st .tree)
     pub size-word : getD w 2 0 ≡ size (st .tree)
     pub first-free : getD w 3 0 ≡ first-link (st .free)
-    -- from the root all links are at most N, (the nodes' slots hold the tree, and it has none from N on)
+    -- "All links that are met from the root on are at most N": the nodes' slots hold the tree, and it has none from N on.
     pub nodes : Holds (slot-at w) (st .tree)
     pub within : (s : ℕ) → st .slots ≤ s → times s (st .tree) ≡ 0
-    -- no slot is met twice,
+    -- "No slot is met twice from the root on."
     pub once : (s : ℕ) → times s (st .tree) ≤ 1
-    -- and keys strictly ascend from left to right;
+    -- "The nodes' keys strictly ascend from left to right."
     pub ascending : Ascending ed (entries (st .tree))
-    -- the free chain's links are at most N (each of its slots is free, "as above", and none is from N on)
+    -- "The chain's links are at most N, each slot that it meets is free": the slots hold the chain, and it has none from N on.
     pub chain : Chained (slot-at w) (st .free)
     pub chain-within : (s : ℕ) → st .slots ≤ s → listed s (st .free) ≡ 0
-    -- and it ends with 0 after exactly N minus size slots."
+    -- "It ends with a link of 0 after exactly N minus size slots."
     pub chain-length : size (st .tree) + length (st .free) ≡ st .slots

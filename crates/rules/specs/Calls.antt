@@ -34,7 +34,7 @@ pub record Performed (K : Type 0) : Type 0 where
   pub state : State K
 
 module _ {K : Type 0} (ed : Edition K) where
-  -- Making refuses "10 SIZE: N 0 or above 4,095" and "11 SHORT: fewer than 4+4N words", in this order.
+  -- Making refuses "10 SIZE", where "N is 0 or above 4,095", and then "11 SHORT", where "there are fewer than 4+4N words".
   unfoldable pub make : ℕ → List ℕ → Made
   make zero w = record { returned = code-number SIZE; arena = w }
   make (suc m) w =
@@ -44,8 +44,8 @@ module _ {K : Type 0} (ed : Edition K) where
       (record { returned = code-number SHORT; arena = w }))
       (record { returned = code-number SIZE; arena = w })
 
-  -- "12 DAMAGED: the arena is not well formed" comes before everything else: a call gives what `f` says of the state that the arena
-  -- holds, or else what it gives where it refuses.
+  -- "12 DAMAGED": "the arena is not well formed". Of a single command and of a run this is the first refusal: a call gives what `f` says of
+  -- the state that the arena holds, or else what it gives where it refuses.
   pub data Checked {A : Type 0} (w : List ℕ) (f : State K → A) (refused given : A) : Type 0 where
     well-formed : (st : State K) → WellFormed ed w st → given ≡ f st → Checked w f refused given
     damaged : ((st : State K) → ¬ WellFormed ed w st) → given ≡ refused → Checked w f refused given
@@ -58,11 +58,11 @@ module _ {K : Type 0} (ed : Edition K) where
       let o = perform-as r c st in
       record { answer = answer-words ed (o .answer); arena = over ed (o .state) w }
 
-  -- "A refused single command answers the code and three zeros."
+  -- "A call for one command that is refused answers the code and three zeros."
   abbrev pub one-refused : List ℕ → Replied
   one-refused w = record { answer = answer-words ed (bare ed DAMAGED 0); arena = w }
 
-  -- A call for one command, "number, key, value", on the arena w gives `given`.
+  -- A call for one command, "its number, a key and a value", on the arena w gives `given`.
   abbrev pub One : Reading → ℕ → K → ℕ → List ℕ → Replied → Type 0
   One r n k v w given = Checked w (one-on r (command n k v) w) (one-refused w) given
 
@@ -77,14 +77,15 @@ module _ {K : Type 0} (ed : Edition K) where
   abbrev pub commands-of : List ℕ → List (Command K)
   commands-of w = commands (how-many w) w
 
-  -- "13 RAGGED: command words not a multiple of 3", then "14 NO ROOM: fewer than 4 answer words per command".
+  -- "13 RAGGED": "the number of command words is no multiple of 3". Then "14 NO ROOM": "there are fewer than 4 answer words for each
+  -- command".
   unfoldable pub refusal : List ℕ → ℕ → Option Code
   refusal w answer-room =
       choose (eqb (length w % command-size ed) 0)
       (choose (leb (answer-size ed * how-many w) answer-room) nil (some NO-ROOM))
       (some RAGGED)
 
-  -- "Does the commands in order."
+  -- A run "does the commands of its list in order".
   unfoldable pub perform-all : Reading → List (Command K) → State K → Performed K
   perform-all r [] st = record { answers = []; state = st }
   perform-all r (c ∷ cs) st =
@@ -96,7 +97,8 @@ module _ {K : Type 0} (ed : Edition K) where
   all-answers [] = []
   all-answers (a ∷ more) = answer-words ed a ++ all-answers more
 
-  -- "Writes each answer after the one before; answer words beyond stay."
+  -- "The first answer is written at the front of the answer words and each further one right behind the answer before it; the answer words
+  -- that are left over stay as they were." And "a refused call changes no word".
   abbrev pub run-by : Option Code → Reading → List ℕ → List ℕ → List ℕ → State K → Ran
   run-by (some c) r cs w buffer st = record { returned = code-number c; arena = w; answers = buffer }
   run-by nil r cs w buffer st =

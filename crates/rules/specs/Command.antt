@@ -10,7 +10,7 @@ pub data Command (K : Type 0) : Type 0 where
   min max take-first take-last clear len unknown : Command K
 
 module _ {K : Type 0} where
-  -- The table "No., Command", from number 0 on. The crate's `contains` and `find_key` are get, and its `is_empty` is length 0.
+  -- The table of the commands, from number 0 on. The Rust's `contains` and `find_key` are get, and its `is_empty` is length 0.
   abbrev pub numbered : K → ℕ → List (Command K)
   numbered k v =
       unknown
@@ -28,7 +28,7 @@ module _ {K : Type 0} where
       ∷ len
       ∷ []
 
-  -- "Unused words are ignored." 0 and every number above 12 are unknown.
+  -- "A word that it has no use for is ignored." UNKNOWN: "the number is 0 or above 12".
   abbrev pub command : ℕ → K → ℕ → Command K
   command n k v = getD (numbered k v) n unknown
 
@@ -53,7 +53,7 @@ code-number RAGGED = 13
 code-number NO-ROOM = 14
 code-number BAD-LINE = 15
 
--- "An accepted making or run returns 0."
+-- "A making or a run returns 0 where it is accepted, and the code where it is refused."
 abbrev pub accepted : ℕ
 accepted = 0
 
@@ -63,7 +63,7 @@ pub record Reply (K : Type 0) : Type 0 where
   pub key : K
   pub value : ℕ
 
--- "An answer is four words: code, key, value, comparisons."
+-- "An answer has four words: a code, a key, a value and the count."
 pub record Answer (K : Type 0) : Type 0 where
   pub code : Code
   pub key : K
@@ -91,6 +91,6 @@ module _ {K : Type 0} (ed : Edition K) where
   abbrev pub answer-size : ℕ
   answer-size = 3 + ed .width
 
-  -- The command that a list of words begins with: "number, key, value".
+  -- The command that a list of words begins with: "its number, a key and a value".
   abbrev pub command-at : List ℕ → Command K
   command-at w = command (getD w 0 0) (ed .key-at w 1) (getD w (1 + ed .width) 0)

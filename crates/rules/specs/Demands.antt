@@ -1,5 +1,5 @@
--- What the demands speak of: calls that happened one after the other on an arena, and what has to hold of the arena and of the answers. The
--- theorems are in proofs/Demands.antt.
+-- What "the demands" speak of: calls that happened one after the other on an arena, and what has to hold of the arena and of the answers.
+-- The theorems are in proofs/Demands.antt.
 use mathlib.Core.List.{List, [], _∷_, _++_, map}
 use mathlib.Core.Logic.{_⊎_}
 use mathlib.Core.Option.{Option, none as nil, some}
@@ -33,17 +33,18 @@ module _ {K : Type 0} (ed : Edition K) where
         → Run ed r cs w buffer given → Happened calls (given .arena) gave w′
         → Happened (run r cs buffer ∷ calls) w (ran given ∷ gave) w′
 
-  -- The words of one command, as a run takes them: "number, key, value".
+  -- The words of one command, as a run takes them: "its number, a key and a value".
   abbrev pub command-words : ℕ → K → ℕ → List ℕ
   command-words m k v = m ∷ (ed .spell k ++ (v ∷ []))
 
-  -- A history: an arena of n slots was made in the words w₀, the making was accepted, and then the calls happened on it.
+  -- A history: "an arena newly made with N slots and any calls on it". The making, of n slots in the words w₀, was accepted, and then the
+  -- calls happened.
   pub record History (n : ℕ) (w₀ : List ℕ) (calls : List (Call K)) (gave : List Given) (w : List ℕ) : Type 0 where
     pub made : make ed n w₀ .returned ≡ accepted
     pub happened : Happened calls (make ed n w₀ .arena) gave w
 
-  -- The words w′ are, word for word, those of the state st′ written over w: they are a well-formed arena that holds it, with as many slots
-  -- as before, as many words, and the same words behind the last slot.
+  -- The words w′ are, "word for word", those of the state st′ written over w: they are a well-formed arena that holds it, with as many
+  -- slots as before, as many words, and the same words behind the last slot.
   pub record Left (slots-before : ℕ) (w : List ℕ) (st′ : State K) (w′ : List ℕ) : Type 0 where
     pub every-word : w′ ≡ over ed st′ w
     pub formed : WellFormed ed w′ st′
@@ -57,7 +58,7 @@ module _ {K : Type 0} (ed : Edition K) where
     pub off-chain : listed s (st .free) ≡ 0
     pub live-there : let c = slot-at ed w s in find ed (c .key) l ≡ some (pair ed (c .key) (c .value))
 
-  -- The slot s is on the chain exactly once, holds no entry, and has zero key and value.
+  -- The slot s holds no entry: it "has key 0 and value 0 and is on the chain exactly once".
   pub record Free (w : List ℕ) (st : State K) (s : ℕ) : Type 0 where
     pub off-tree : times s (st .tree) ≡ 0
     pub on-chain : listed s (st .free) ≡ 1
@@ -70,8 +71,8 @@ module _ {K : Type 0} (ed : Edition K) where
     pub its-key : slot-at ed w slot .key ≡ p .key
     pub its-value : slot-at ed w slot .value ≡ p .value
 
-  -- The words w are an arena of n slots that holds exactly the entries l, in ascending order: each stands in a slot, no key in two, and
-  -- every other slot is free.
+  -- "The arena holds exactly the live entries, in ascending order": the words w are an arena of n slots, and l are the entries. Each stands
+  -- in a slot, no key in two, and every other slot is free.
   pub record Holding (n : ℕ) (l : List (Pair K)) (w : List ℕ) : Type 0 where
     pub state : State K
     pub formed : WellFormed ed w state

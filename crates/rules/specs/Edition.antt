@@ -13,14 +13,15 @@ pub record Edition (K : Type 0) : Type 0 where
   pub spell : K → List ℕ
   pub key-at : List ℕ → ℕ → K
 
--- "All words are unsigned, 32 bits. M is 4294967295." Here a word is any number; that it is below 2^32 comes from `u32` in the contracts.
+-- "A word is an unsigned number of 32 bits. M is the largest one, 4294967295." Here a word is any number; that it is below 2^32 comes from
+-- `u32` in the contracts.
 abbrev pub M : ℕ
 M = 4294967295
 
--- "N, the slots, 1 to 4,095."
+-- "N, the number of slots, from 1 to 4,095".
 abbrev pub most-slots : ℕ
 most-slots = 4095
 
--- Keys of one word, "group times 65536 plus element".
+-- "A key is one word": "the group times 65536, plus the element".
 abbrev pub tags : Edition ℕ
 tags = record { order = by-number; zero-key = 0; width = 1; spell = λ k. k ∷ []; key-at = λ w i. getD w i 0 }

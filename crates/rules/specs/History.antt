@@ -9,8 +9,8 @@ use Rattle.rules.specs.Live.{Pair, after, reply}
 use Rattle.rules.specs.Reading.{Reading, read-as, reply-as}
 use Rattle.rules.specs.Calls.{commands-of, refusal}
 
--- A call, with all that it is given besides the arena: one command, "number, key, value"; or a run's command words and the words of the
--- answer buffer that it is lent. "A set's command counts as the set reads it."
+-- A call, with all that it is given besides the arena: one command, "its number, a key and a value"; or a run's command words and the words
+-- of the answer buffer that it is lent. "A command given to the set counts as the set reads it."
 pub data Call (K : Type 0) : Type 0 where
   one : Reading → ℕ → K → ℕ → Call K
   run : Reading → List ℕ → List ℕ → Call K
@@ -25,7 +25,7 @@ module _ {K : Type 0} (ed : Edition K) where
   replies-all n r [] l = []
   replies-all n r (c ∷ cs) l = reply-as r (reply ed n (read-as r c) l) ∷ replies-all n r cs (after ed n (read-as r c) l)
 
-  -- A refused run does no command.
+  -- "A refused call does no command."
   abbrev pub done-by : Option Code → List ℕ → List (Command K)
   done-by nil w = commands-of ed w
   done-by (some c) w = []

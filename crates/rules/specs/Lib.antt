@@ -1,12 +1,15 @@
--- Document 01 in definitions, bottom up. `abbrev` and `unfoldable` say only how far the prover looks into a definition; they change no
--- meaning. `nil` is "no entry", `none` is the empty tree. To read along with document 01, take the files in this order:
---   "The arena's words": Edition (keys, M, the limits), Tree, Perform up to `freeing` (the state, making, slots taken and freed), Arena;
---   "The splay, step by step": Order (sides, comparing), Splay;
---   "Commands": Command (the tables, words of commands and answers), Perform, Reading (the set), Calls (whole calls and what they refuse);
+-- docs/RULES.md in definitions, bottom up. What stands in quotation marks is quoted from that page. `abbrev` and `unfoldable` say only how
+-- far the prover looks into a definition; they change no meaning. `nil` is "no entry", `none` is the empty tree. To read along with the
+-- page, take the files in this order:
+--   "The arena": Edition (keys, M, the limits), Tree, Perform up to `freeing` (the state, making, slots taken and freed), Arena;
+--   "The splay": Order (sides, comparing), Splay;
+--   "The commands" and "The answers": Command (the tables, words of commands and answers), Perform;
+--   "Whole calls": Calls (what they give, and what they refuse);
+--   "The set": Reading;
 --   "The line program": Lines;
---   "Twelve arenas to prove": Twelve;
---   "What each call owes its reader": Live (the live entries, with no tree), History (the same over calls), Demands (what it
---   is for calls to have happened, and what has to hold of them; the theorems are in proofs/Demands.antt).
+--   "The live entries": Live (after each command, with no tree), History (after calls);
+--   "The demands": Demands (what it is for calls to have happened, and what has to hold of them; the theorems are in proofs/Demands.antt);
+--   "Twelve arenas": Twelve.
 -- What is proved of them stands in proofs/, and worked cases in proofs/Cases.antt.
 pub mod Order
 pub mod Edition

@@ -13,7 +13,7 @@ use Rattle.rules.specs.Perform.{State, Outcome, new, gives, perform}
 abbrev pub newline : ℕ
 newline = 10
 
--- A lower-case hexadecimal digit: 0 to 9, a to f.
+-- A hexadecimal digit: "0 to 9, a to f".
 unfoldable pub digit : ℕ → Option ℕ
 digit b =
     choose (leb 48 b && leb b 57) (some (b - 48))
@@ -38,12 +38,12 @@ unfoldable pub number-from : ℕ → List ℕ → ℕ
 number-from n [] = n
 number-from n (d ∷ ds) = number-from (16 * n + d) ds
 
--- So many words of 8 digits each.
+-- So many "words of 8 digits".
 unfoldable pub words-from : ℕ → List ℕ → List ℕ
 words-from zero ds = []
 words-from (suc n) ds = number-from 0 (take 8 ds) ∷ words-from n (drop 8 ds)
 
--- So many digits of a number, as bytes, "high digit first".
+-- So many digits of a number, as bytes, "the highest digit first".
 unfoldable pub spelled : ℕ → ℕ → List ℕ
 spelled zero w = []
 spelled (suc n) w = spelled n (w / 16) ++ (byte-of (w % 16) ∷ [])
@@ -52,8 +52,8 @@ unfoldable pub all-spelled : List ℕ → List ℕ
 all-spelled [] = []
 all-spelled (w ∷ ws) = spelled 8 w ++ all-spelled ws
 
--- The lines of the bytes, after the bytes of one that is not ended: "The last line may lack its newline; after a last newline no line
--- follows."
+-- The lines of the bytes, after the bytes of one that is not ended. "A newline ends a line. The last line may come without its newline;
+-- behind a newline at the very end there is no further line."
 abbrev pub unfinished : List ℕ → List (List ℕ)
 unfinished [] = []
 unfinished (b ∷ line) = (b ∷ line) ∷ []
@@ -71,16 +71,16 @@ module _ {K : Type 0} (ed : Edition K) where
   command-of nil = nil
   command-of (some ds) = some (command-at ed (words-from (command-size ed) ds))
 
-  -- "One command a line: exactly 24 lower-case hexadecimal digits, three words."
+  -- "One command on each line, as exactly 24 hexadecimal digits .. three words of 8 digits".
   unfoldable pub line-command : List ℕ → Option (Command K)
   line-command line = choose (eqb (length line) (8 * command-size ed)) (command-of (digits line)) nil
 
-  -- "Any other line .. answers code 15 BAD LINE, then zeros, and changes nothing."
+  -- "Every other line .. is answered by code 15 BAD LINE and three zeros, and changes nothing."
   abbrev pub line-outcome : Option (Command K) → State K → Outcome K
   line-outcome nil st = gives (bare ed BAD-LINE 0) st
   line-outcome (some c) st = perform ed c st
 
-  -- "Output: 32 digits and a newline per line."
+  -- "For each line the program writes the answer's four words, 32 digits in the same way, and a newline."
   unfoldable pub answer-line : Answer K → List ℕ
   answer-line a = all-spelled (answer-words ed a) ++ (newline ∷ [])
 
@@ -94,7 +94,7 @@ module _ {K : Type 0} (ed : Edition K) where
   unfoldable pub output : ℕ → List ℕ → List ℕ
   output n input = respond (lines input) (new n)
 
--- "The program's arena has 1,024 slots."
+-- "The arena has 1,024 slots".
 abbrev pub program-slots : ℕ
 program-slots = 1024
 

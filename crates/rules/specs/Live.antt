@@ -1,5 +1,5 @@
--- Demand 3: which keys are live with which value, and the answers that follow from that, said of an ascending list of pairs. Nothing
--- here knows of a tree, a link, a slot or a splay.
+-- "The live entries": which keys are live with which value, and the answers that follow from that, said of "a list of pairs, key and value,
+-- ascending by key". "No tree, link, slot or splay takes part in saying what it is."
 use mathlib.Core.Bool.{Bool, true, false}
 use mathlib.Core.List.{List, [], _∷_}
 use mathlib.Core.Option.{Option, none as nil, some}
@@ -86,7 +86,7 @@ module _ {K : Type 0} (ed : Edition K) where
   if-there nil there not-there = not-there
   if-there (some p) there not-there = there
 
-  -- "5 adds the key's pair or replaces its value, but an absent key changes nothing when N pairs are there; ..
+  -- 5: "a pair that the key has gets the command's value; otherwise a pair is added, but not to N pairs".
   abbrev pub storing-by : Option (Pair K) → Bool → Storing K
   storing-by (some p) is-N = replaces p
   storing-by nil true = is-full
@@ -100,7 +100,8 @@ module _ {K : Type 0} (ed : Edition K) where
   stored is-full p l = l
   stored adds p l = put p l
 
-  -- .. 2 replaces a present key's value; 6 drops the key's pair, 9 the first, 10 the last, 11 all; the others change nothing."
+  -- "The list afterwards", command by command. 2: "a pair that the key has gets the command's value". 6: "without the key's pair". 9 and
+  -- 10: "without that pair", which is the first or the last. 11: "empty". All others: "the same".
   unfoldable pub after : ℕ → Command K → List (Pair K) → List (Pair K)
   after n (get k) l = l
   after n (write k v) l = if-there (find k l) (put (pair k v) l) l
@@ -133,7 +134,8 @@ module _ {K : Type 0} (ed : Edition K) where
   stored-reply is-full k = says FULL
   stored-reply adds k = replies NEW k 0
 
-  -- "The entry of 1 is the key's pair, of 3 the first above the key, of 4 the last below it, of 7 and 9 the first, of 8 and 10 the last."
+  -- "Its entry, from the list before", with the code of "the table of the answers". 1, 2, 5, 6: "the key's pair". 3: "the first pair above
+  -- the key". 4: "the last pair below the key". 7 to 10: "the first pair, the last pair". 11 and 12 tell "the length of the list before".
   unfoldable pub reply : ℕ → Command K → List (Pair K) → Reply K
   reply n (get k) l = with-entry FOUND (find k l)
   reply n (write k v) l = with-entry REPLACED (find k l)

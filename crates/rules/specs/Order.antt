@@ -40,7 +40,7 @@ abbrev pub choose {ℓ} : {A : Type ℓ} → Bool → A → A → A
 choose true a b = a
 choose false a b = b
 
--- "The comparator becomes the order of integers."
+-- "Keys are compared as numbers."
 abbrev pub order-of : Ordering → Order
 order-of Ordering·lt = toward left
 order-of Ordering·eq = equal

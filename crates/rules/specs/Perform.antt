@@ -24,7 +24,7 @@ unfoldable pub counting : ℕ → ℕ → List ℕ
 counting zero from = []
 counting (suc n) from = from ∷ counting n (suc from)
 
--- "Splay, then compare with the root": the order there, the root, its children, and the comparisons in all. Or there is no tree.
+-- "To look a key up": the order at the new root, the root, its children, and the comparisons in all. Or there is no tree.
 pub data Met (K : Type 0) : Type 0 where
   nobody : Met K
   met : Order → Entry K → Tree K → Tree K → ℕ → Met K
@@ -39,33 +39,35 @@ first-of [] = full
 first-of (s ∷ more) = in-slot s more
 
 module _ {K : Type 0} where
-  -- "Making an arena sets size and root 0 and chains the slots 0, 1, 2 and so on."
+  -- "Making an arena of N slots leaves it with no entry: root link and size are 0, and all slots are chained, from slot 0 upwards."
   unfoldable pub new : ℕ → State K
   new n = record { slots = n; tree = none; free = counting n 0 }
 
   abbrev pub with-tree : Tree K → State K → State K
   with-tree t st = record { slots = st .slots; tree = t; free = st .free }
 
-  -- "An insert takes the first free slot; a freed slot becomes the first."
+  -- "An insert that stores a new key takes the chain's first slot. A slot that is freed goes to the front of the chain."
   abbrev pub taking : Tree K → List ℕ → State K → State K
   taking t more st = record { slots = st .slots; tree = t; free = more }
 
   abbrev pub freeing : ℕ → Tree K → State K → State K
   freeing s t st = record { slots = st .slots; tree = t; free = s ∷ st .free }
 
-  -- "FULL: size is N."
+  -- "5 FULL": "the key is not there and the size is N".
   unfoldable pub room : State K → Room
   room st = choose (eqb (size (st .tree)) (st .slots)) full (first-of (st .free))
 
   abbrev pub revalued : ℕ → Entry K → Entry K
   revalued v e = record { slot = e .slot; key = e .key; value = v }
 
-  -- "The new node is the root, taking the old root's left subtree if the key is less (old root to its right), or the mirror."
+  -- "Where its key is less than the root's, the root's left subtree becomes its left subtree and the root its right child; where it is
+  -- greater, the mirror image."
   abbrev pub new-root : Side → Entry K → Entry K → Tree K → Tree K → Tree K
   new-root s x e l r = fork s x (of-side s l r) (fork s e none (of-side s r l))
 
-  -- "Hang the right subtree on it; no left: the right becomes the tree." The root's right child x is empty here, since the key was right of
-  -- all of the left subtree (law `hung` in proofs/Brought.antt); the Rust overwrites it too.
+  -- "The right subtree becomes the right child of its new root. Without a left subtree, the right subtree becomes the tree." The new root's
+  -- right child x is empty here, since the key was right of all of the left subtree (law `hung` in proofs/Brought.antt); the Rust
+  -- overwrites it too.
   abbrev pub hung-on : Tree K → Tree K → Tree K
   hung-on none r = r
   hung-on (node e l x) r = node e l r
@@ -79,7 +81,7 @@ module _ {K : Type 0} where
   gives a st = record { answer = a; state = st }
 
 module _ {K : Type 0} (ed : Edition K) where
-  -- "One more count" for the comparison with the root. "On an empty tree no comparison is made."
+  -- The comparison with the new root "counts one more". "An empty tree is not splayed, and nothing is compared there."
   abbrev pub root-met : K → Tree K → ℕ → Met K
   root-met k none n = nobody
   root-met k (node e l r) n = met (ed .order k (e .key)) e l r (suc n)
@@ -87,28 +89,30 @@ module _ {K : Type 0} (ed : Edition K) where
   unfoldable pub bring : K → Tree K → Met K
   bring k t = let s = splay (ed .order) k t in root-met k (s .tree) (s .count)
 
-  -- A key that is not there is ABSENT, and the tree stays splayed; at a key that is there, `present` goes on.
+  -- "1, 2, 6: the key is not there": it is ABSENT, and the tree stays splayed. At a key that is there, `present` goes on.
   unfoldable pub if-present : (Entry K → Tree K → Tree K → ℕ → State K → Outcome K) → Met K → State K → Outcome K
   if-present present nobody st = gives (bare ed ABSENT 0) st
   if-present present (met equal e l r n) st = present e l r n st
   if-present present (met (toward s) e l r n) st = gives (bare ed ABSENT n) (with-tree (node e l r) st)
 
-  -- 1 get.
+  -- 1 get "looks the key up".
   abbrev pub found : Entry K → Tree K → Tree K → ℕ → State K → Outcome K
   found e l r n st = gives (telling ed FOUND (e .key) (e .value) n) (with-tree (node e l r) st)
 
-  -- 2 write if present: "as get, and replaces the value of a present key".
+  -- 2 write if present: "if it is there, its value becomes the command's".
   abbrev pub replaced : ℕ → Entry K → Tree K → Tree K → ℕ → State K → Outcome K
   replaced v e l r n st =
       gives (telling ed REPLACED (e .key) (e .value) n) (with-tree (node (revalued v e) l r) st)
 
-  -- 6 remove: "if equal, splay the left subtree with the same key (counts added) and hang the right subtree on it".
+  -- 6 remove: "the left subtree is splayed with the same key, which adds to the count, and the right subtree becomes the right child of its
+  -- new root".
   abbrev pub removed : K → Entry K → Tree K → Tree K → ℕ → State K → Outcome K
   removed k e l r n st =
       let s = splay (ed .order) k l in
       gives (telling ed REMOVED (e .key) (e .value) (n + s .count)) (freeing (e .slot) (hung-on (s .tree) r) st)
 
-  -- 5 insert: "equal: replace the value. Otherwise the new node is the root". FULL leaves the tree "splayed as by get".
+  -- 5 insert: "if it is there, its value becomes the command's; if not, and the size is below N, a new node becomes the root". FULL leaves
+  -- the tree "splayed, and counted, as by a get".
   unfoldable pub inserted : K → ℕ → Met K → Room → State K → Outcome K
   inserted k v (met equal e l r n) slot st = replaced v e l r n st
   inserted k v nobody full st = gives (bare ed FULL 0) st
@@ -122,9 +126,10 @@ module _ {K : Type 0} (ed : Edition K) where
   entry-or nil n = bare ed ABSENT n
   entry-or (some e) n = telling ed FOUND (e .key) (e .value) n
 
-  -- 3, 4 next, prev: "walk from the root until no child is left, one count per node met". d is the side on which the sought key lies of
-  -- its neighbour: left for next, right for prev. Where the key lies on the side d of a node, the node is the best so far, and the walk
-  -- goes to its child on the side d; otherwise it goes to the other child: "an equal key goes right for next, left for prev".
+  -- 3, 4 next, prev: the walk "begins at the root and ends where the child that it would go to is missing; each node that it meets counts
+  -- one". d is the side on which the sought key lies of its neighbour: left for next, right for prev. "For next it goes left at a node
+  -- whose key is above the sought one, and remembers that node; otherwise, at an equal key too, it goes right." Prev is the same at the
+  -- other side. "The entry is the node remembered last."
   unfoldable pub seek : Side → K → Tree K → Option (Entry K) → ℕ → Answer K
   seek d k none best n = entry-or best n
   seek d k (node e l r) best n =
@@ -136,12 +141,12 @@ module _ {K : Type 0} (ed : Edition K) where
   neighbour d k st =
       let s = splay (ed .order) k (st .tree) in gives (seek d k (s .tree) nil (s .count)) (with-tree (s .tree) st)
 
-  -- 7, 8 min, max: "no splay, no count, no change".
+  -- 7, 8 min, max: "without a splay, a comparison or a change".
   abbrev pub outer : Side → State K → Outcome K
   outer d st = gives (entry-or (outermost d (st .tree) nil) 0) st
 
-  -- 9, 10 take first, take last: "rotate the left (right) child up until there is none, remove the root, its other child taking its
-  -- place; no count". The root is e; its child on the side d comes first, `far` is the other.
+  -- 9, 10 take first, take last: "rotates the root's left child up (take last: its right child) until the root has none there. Then the
+  -- root is removed, and its other subtree becomes the tree." The root is e; its child on the side d comes first, `far` is the other.
   unfoldable pub raise : Side → Tree K → Entry K → Tree K → State K → Outcome K
   raise d none e far st = gives (telling ed REMOVED (e .key) (e .value) 0) (freeing (e .slot) far st)
   raise d (node c l r) e far st = of-side d (raise d l) (raise d r) c (fork d e (of-side d r l) far) st
@@ -150,7 +155,7 @@ module _ {K : Type 0} (ed : Edition K) where
   taken d none st = gives (bare ed ABSENT 0) st
   taken d (node e l r) st = raise d (of-side d l r) e (of-side d r l) st
 
-  -- "COUNT. 11: entries dropped; 12: size."
+  -- "6 COUNT": "0, the size before".
   abbrev pub counted : State K → Answer K
   counted st = telling ed COUNT (ed .zero-key) (size (st .tree)) 0
 

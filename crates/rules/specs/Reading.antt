@@ -7,13 +7,13 @@ use Rattle.rules.specs.Command.{Command, get, next, prev, remove, write,
 pub data Reading : Type 0 where
   as-map as-set : Reading
 
--- The set "gives 0 for every entry's value, old values too; COUNT and refusals are as the map's", where every refusal has value 0.
+-- "The value of every entry, an old one too, is given as 0; COUNT and refusals are the map's." Every refusal has value 0.
 abbrev pub value-as : Reading → Code → ℕ → ℕ
 value-as as-map c v = v
 value-as as-set c v = choose (eqb (code-number c) (code-number COUNT)) v 0
 
 module _ {K : Type 0} where
-  -- The set "takes the same commands but 2, which is UNKNOWN there"; "its inserts store value 0".
+  -- "Its commands are the map's, except that 2 is UNKNOWN and that an insert stores value 0."
   abbrev pub set-command : Command K → Command K
   set-command (get k) = get k
   set-command (write k v) = unknown

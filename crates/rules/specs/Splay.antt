@@ -1,4 +1,4 @@
--- "The splay, step by step": simplified top-down splaying as a function on trees, with its comparisons counted.
+-- "The splay": "simplified top-down splaying" as a function on trees, with its comparisons counted.
 use mathlib.Core.Bool.{Bool, true, false}
 use mathlib.Core.List.{List, [], _∷_}
 use Prim.Native.Nat.{ℕ, zero, suc}
@@ -20,11 +20,11 @@ pub record Splayed (K : Type 0) : Type 0 where
   pub count : ℕ
 
 module _ {K : Type 0} where
-  -- "an empty left tree and right tree"
+  -- "A left tree and a right tree that are both empty".
   abbrev pub nothing : Gathered K
   nothing = record { left-tree = none; right-tree = none; count = 0 }
 
-  -- "Each comparison counts one."
+  -- "Every comparison of the key with a node's key counts one."
   abbrev pub tick : Gathered K → Gathered K
   tick g = record { left-tree = g .left-tree; right-tree = g .right-tree; count = suc (g .count) }
 
@@ -33,19 +33,22 @@ module _ {K : Type 0} where
   join left t g = record { left-tree = g .left-tree; right-tree = hang left (g .right-tree) t; count = g .count }
   join right t g = record { left-tree = hang right (g .left-tree) t; right-tree = g .right-tree; count = g .count }
 
-  -- "If it then has no left child, stop. Then link: the node joins the right tree at its smallest end, and its left child becomes the
-  -- node." The node is e; `near` is its child on the side s of the key, `far` the other.
+  -- "If the child has no left child, the walk stops. If it has not stopped, the step ends with a link: the node that the walk stands at is
+  -- hung on the right tree, at its smallest end, without its left subtree, and the walk goes on at the root of that subtree." The node is
+  -- e; `near` is its child on the side s of the key, `far` the other.
   abbrev pub link : Side → Entry K → Tree K → Tree K → Gathered K → Step K
   link s e none far g = stop (fork s e none far) g
   link s e (node c l r) far g = go-on (node c l r) (join s (fork s e none far) g)
 
-  -- "If less again, rotate right, so the child is now the node." The child is c; `near` is its own child on the side s, `mid` the other.
+  -- "If it is less than the child too, the node is rotated right: the child takes the node's place, the node becomes the child's right
+  -- child, and the child's right subtree becomes the node's left one." The child is c; `near` is its own child on the side s, `mid` the
+  -- other.
   abbrev pub rotate-or-link : Bool → Side → Entry K → Entry K → Tree K → Tree K → Tree K → Gathered K → Step K
   rotate-or-link true s e c near mid far g = link s c near (fork s e mid far) g
   rotate-or-link false s e c near mid far g = link s e (fork s c near mid) far g
 
-  -- "At the stop the node's left subtree goes to the right end of the left tree, its right subtree to the left end of the right tree,
-  -- and the two trees become the node's children."
+  -- "After the stop, the node's left subtree is hung on the left tree, at its largest end, and its right subtree on the right tree, at its
+  -- smallest end. The left tree and the right tree become the node's children, and the node is the new root."
   abbrev pub assemble : Tree K → Gathered K → Splayed K
   assemble none g = record { tree = none; count = g .count }
   assemble (node e l r) g =
@@ -57,19 +60,19 @@ module _ {K : Type 0} where
   go-by further (go-on t g) = further t g
 
   module _ (cmp : K → K → Order) (k : K) where
-    -- "Less: if there is no left child, stop. Otherwise compare with the child."
+    -- "Less: without a left child, the walk stops. Otherwise the key is compared with that child."
     abbrev pub look : Side → Entry K → Tree K → Tree K → Gathered K → Step K
     look s e none far g = stop (fork s e none far) g
     look s e (node c l r) far g =
         rotate-or-link (is-toward s (cmp k (c .key))) s e c (of-side s l r) (of-side s r l) far (tick g)
 
-    -- "Equal: stop. Less: .. Greater: the mirror image."
+    -- "Equal: the walk stops." "Less", and "Greater: the mirror image".
     abbrev pub turn : Order → Entry K → Tree K → Tree K → Gathered K → Step K
     turn equal e l r g = stop (node e l r) g
     turn (toward left) e l r g = look left e l r g
     turn (toward right) e l r g = look right e r l g
 
-    -- "Compare the key with the node." An empty tree has no node; the walk never comes to one.
+    -- "At each step the key is compared with the node that the walk stands at." An empty tree has no node; the walk never comes to one.
     abbrev pub step : Tree K → Gathered K → Step K
     step none g = stop none g
     step (node e l r) g = turn (cmp k (e .key)) e l r (tick g)
@@ -79,13 +82,14 @@ module _ {K : Type 0} where
     walk zero t g = assemble t g
     walk (suc n) t g = go-by (walk n) (step t g)
 
-    -- "Start at the root with an empty left tree and right tree." Each step goes on at a smaller tree, so a step for each node is enough:
-    -- in proofs/Splay.antt the function obeys document 01's rules one by one (`splay-obeys`), and nothing else does (`splay-only`).
+    -- "Its walk starts at the root, with a left tree and a right tree that are both empty." Each step goes on at a smaller tree, so a step
+    -- for each node is enough: in proofs/Splay.antt the function obeys the rules one by one (`splay-obeys`), and nothing else does
+    -- (`splay-only`).
     unfoldable pub splay : Tree K → Splayed K
     splay t = walk (size t) t nothing
 
-    -- The nodes that a plain search for the key meets, from the root down. The splay "leaves at the root the last node of the plain
-    -- search path" (proofs/Path.antt).
+    -- The nodes that a plain search for the key meets, from the root down. "The new root is the last node of the plain search path for the
+    -- key" (proofs/Path.antt).
     unfoldable pub path : Tree K → List (Entry K)
     path none = []
     path (node e l r) = e ∷ by-order (cmp k (e .key)) [] (path l) (path r)

@@ -51,7 +51,7 @@ module _ {K : Type 0} where
   abbrev pub times : ℕ → Tree K → ℕ
   times s t = weigh (λ e. hit s (e .slot)) t
 
-  -- "A link is 0 for none, or slot number plus 1."
+  -- "A link of 0 leads nowhere, and a link of s+1 leads to slot s."
   abbrev pub link-to : Tree K → ℕ
   link-to none = 0
   link-to (node e l r) = suc (e .slot)

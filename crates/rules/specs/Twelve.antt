@@ -1,4 +1,4 @@
--- "Twelve arenas to prove": the table of document 01, and one row more. The theorem is in proofs/Twelve.antt.
+-- "Twelve arenas": the table of docs/RULES.md. The theorem is in proofs/Twelve.antt.
 use mathlib.Core.List.{List, [], _∷_, _++_}
 use Prim.Native.Nat.{ℕ}
 use Rattle.rules.specs.Edition.{M, tags}
@@ -40,7 +40,7 @@ unfoldable pub all-given : List Story → List (List ℕ × Told)
 all-given [] = []
 all-given (story n w rows ∷ more) = (words tags (new n), given rows (new n)) ∷ all-given more
 
--- "A command is three words": number, key, value. An answer, a header and a slot are four.
+-- "A command has three words: its number, a key and a value." An answer, a header and a slot have four.
 abbrev pub three : ℕ → ℕ → ℕ → List ℕ
 three a b c = a ∷ b ∷ c ∷ []
 
@@ -74,7 +74,7 @@ twelve =
     ∷ before (three 5 3 0)
     ∷ before (three 5 4 0)
     ∷ row (three 1 1 0) (quad 0 1 0 6) (four (quad 4 1 4 0) (quad 1 0 0 3) (quad 2 0 0 0) (quad 3 0 2 4) (quad 4 0 0 0))
-    -- Not in document 01: a remove whose left subtree has its largest key below its root, so that the second splay shows.
+    -- "None of the twelve": a remove whose left subtree has its largest key below its root, so that the second splay shows.
     ∷ row (three 6 3 0) (quad 4 3 0 6) (four (quad 4 2 3 3) (quad 1 0 0 0) (quad 2 0 1 4) (quad 0 0 0 M) (quad 4 0 0 0))
     ∷ [])
     -- P11 and P12

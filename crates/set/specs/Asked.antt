@@ -11,8 +11,8 @@ use Rattle.rules.specs.Calls.{Checked, perform-as}
 use Rattle.set.specs.declared.Was.{Was}
 use Rattle.set.specs.declared.Was.the-variants as is
 
--- By the answer's code: "0 FOUND, 1 ABSENT, 2 NEW, 3 REPLACED, 4 REMOVED, 5 FULL". The other code that an answer about a key can have
--- is DAMAGED.
+-- By the answer's code: "0 FOUND, 3 REPLACED and 4 REMOVED say that it was, 1 ABSENT and 2 NEW that it was not, and 5 FULL and 12 DAMAGED
+-- have words of their own." No other code answers a call about a key.
 abbrev pub was-of : ℕ → Was
 was-of n = getD (is.There ∷ is.Absent ∷ is.Absent ∷ is.There ∷ is.There ∷ is.Full ∷ []) n is.Refused
 

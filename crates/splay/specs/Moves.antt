@@ -32,7 +32,8 @@ module _ {K : Type 0} where
   end-risen d none = none
   end-risen d (node e l r) = risen d (of-side d l r) e (of-side d r l)
 
-  -- "Splay the left subtree with the same key and hang the right subtree on it; no left: the right becomes the tree."
+  -- "The left subtree is splayed with the same key, which adds to the count, and the right subtree becomes the right child of its new root.
+  -- Without a left subtree, the right subtree becomes the tree."
   abbrev pub root-gone : (K → K → Order) → K → Tree K → Splayed K
   root-gone cmp k none = record { tree = none; count = 0 }
   root-gone cmp k (node e l r) =
