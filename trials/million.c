@@ -11,12 +11,12 @@ int pthread_attr_setstacksize(pthread_attr_t *, size_t);
 int pthread_create(pthread_t *, const pthread_attr_t *, void *(*)(void *), void *);
 int pthread_join(pthread_t, void **);
 
+#define MINGDHOLEP_TYPES_DECLARED
+#include "../include/mingdholep.h"
+
 enum { SLOTS = 4095, KEYS = 8000, COMMANDS = 1000000, BEHIND = 8, STACK = 256 * 1024 };
 #define FILL 0xa5a5a5a5u
 #define TRIAL "one run of %d commands in %d bytes of stack"
-
-uint32_t mingdholep_make(uint32_t *arena, size_t words, uint32_t slots);
-uint32_t mingdholep_run(uint32_t *arena, size_t words, const uint32_t *list, size_t list_words, uint32_t *answers, size_t answer_words);
 
 static uint32_t arena[4 + 4 * SLOTS + BEHIND], list[3 * COMMANDS], answers[4 * COMMANDS + BEHIND];
 static uint32_t returned = FILL;
@@ -68,7 +68,7 @@ static long entry_of(uint32_t number, uint32_t key) {
     }
 }
 
-/* One command on the table of live keys: the answer's code, key and value by document 01's tables. The comparisons are not told here. */
+/* One command on the table of live keys: the answer's code, key and value, by docs/RULES.md. The comparisons are not told here. */
 static void answer_to(uint32_t number, uint32_t key, uint32_t given, uint32_t told[3]) {
     long found = entry_of(number, key);
     told[0] = 1, told[1] = 0, told[2] = 0;
