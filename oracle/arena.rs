@@ -131,7 +131,7 @@ impl<E: Edition> Arena<E> {
         })
     }
 
-    /// The same command on the mirror, by document 01's list of pairs.
+    /// The same command on the mirror, by the live entries of docs/RULES.md.
     fn ask_mirror(&mut self, Command { number, key, value }: Command) -> Said {
         let mirror = &mut self.mirror;
         let copied = |(key, value): (&u32, &u32)| (*key, *value);

@@ -176,7 +176,7 @@ impl<W: Write> Lists<W> {
         Ok(())
     }
 
-    /// Document 01's P1 to P12.
+    /// P1 to P12 of docs/RULES.md.
     fn worked_cases(&mut self) -> io::Result<()> {
         self.arena(2)?;
         for (number, key, value) in

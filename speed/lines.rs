@@ -1,4 +1,4 @@
-// The line program of document 01 in ordinary safe Rust, for the clock alone: the same lines in, the same lines out, nothing proved. It is
+// The line program of docs/RULES.md in ordinary safe Rust, for the clock alone: the same lines in, the same lines out, nothing proved. It is
 // written as one would write it to be quick: nodes in one vector with indices for links, tables for the digits, input and output in large
 // pieces.
 #![forbid(unsafe_code)]
