@@ -4,9 +4,9 @@
    docs/RULES.md says exactly what each command does; this file says what a caller has to know.
 
    Slices. The words of a slice are given as the address of the first one and their number (words, not bytes). The words must be there and
-   aligned as a uint32_t is, and must stay there until the call returns. Of a slice of 0 words nothing is read or written, and its address may
-   be NULL (tried for each slice; the compiled code assumes nothing of an address, though the kit's guides do not say so). Two slices of one
-   call must not overlap, and no other thread and no signal handler may touch them during the call, except that the list may be read.
+   aligned as a uint32_t is, and must stay there until the call returns. Of a slice of 0 words nothing is read or written, and its address
+   may be NULL (tried for each slice; the compiled code assumes nothing of an address, though the kit's guides do not say so). Two slices of
+   one call must not overlap, and no other thread and no signal handler may touch them during the call, except that the list may be read.
    Nothing checks this: with slices that overlapped, calls were seen to crash, never to end, and to leave a damaged arena. What the words
    hold is another matter: it may be anything, and is checked.
 
