@@ -7,14 +7,14 @@ use crate::splay::node::Node;
 use std::collections::BTreeMap;
 use std::mem;
 
-const FOUND: u32 = 0;
-const ABSENT: u32 = 1;
-const NEW: u32 = 2;
-const REPLACED: u32 = 3;
-const REMOVED: u32 = 4;
-const FULL: u32 = 5;
-const COUNT: u32 = 6;
-const UNKNOWN: u32 = 7;
+pub const FOUND: u32 = 0;
+pub const ABSENT: u32 = 1;
+pub const NEW: u32 = 2;
+pub const REPLACED: u32 = 3;
+pub const REMOVED: u32 = 4;
+pub const FULL: u32 = 5;
+pub const COUNT: u32 = 6;
+pub const UNKNOWN: u32 = 7;
 
 /// An answer without its count: code, key, value.
 type Said = (u32, u32, u32);

@@ -24,14 +24,17 @@ pub struct Answer {
 pub enum Line {
     /// `n` and a word: from here on a new arena of so many slots.
     New(u32),
+    /// `s` and a word: the same, and its commands are the set's.
+    NewSet(u32),
     Command(Command),
 }
 
-/// What the line (without its newline) says, or `None` where it has neither
-/// of the two forms.
+/// What the line (without its newline) says, or `None` where it has none
+/// of these forms.
 pub fn read(line: &[u8]) -> Option<Line> {
     match line.len() {
         9 if line[0] == b'n' => Some(Line::New(word(&line[1..])?)),
+        9 if line[0] == b's' => Some(Line::NewSet(word(&line[1..])?)),
         24 => Some(Line::Command(Command {
             number: word(&line[..8])?,
             key: word(&line[8..16])?,

@@ -6,6 +6,7 @@ mod arena;
 mod edition;
 mod line;
 mod lists;
+mod plain;
 mod shape;
 #[allow(dead_code)]
 mod splay;
@@ -14,11 +15,13 @@ use arena::{Arena, Stop};
 use edition::{Edition, Map, Set};
 use line::Line;
 use lists::Lists;
+use plain::{Plain, Reading};
 use std::io::{self, BufRead, BufWriter, Write};
 use std::process::exit;
 
 const USAGE: &str = "usage:
   oracle answers [--set] [--shapes] [--every K] [--drain-shapes]   answers to the input on stdin
+  oracle plain                                                     the same from document 01's arena in plain words
   oracle lists map|set                                             the recorded input
   oracle random SEED COUNT N KEYS                                  a random input
 numbers are decimal; K, N and KEYS are at least 1";
@@ -81,6 +84,7 @@ fn run() -> Result<(), Failure> {
                 answers::<Map>(&options, &mut out)?
             }
         }
+        ["plain"] => plain(&mut out)?,
         ["lists", "map"] => Lists::new(&mut out).map()?,
         ["lists", "set"] => Lists::new(&mut out).set()?,
         ["random", seed, count, slots, keys] => {
@@ -136,7 +140,7 @@ fn answers<E: Edition>(options: &Options, out: &mut impl Write) -> Result<(), Fa
     for (index, bytes) in io::stdin().lock().split(b'\n').enumerate() {
         let refused = |why: &str| Err(Failure::Caller(format!("line {}: {why}", index + 1)));
         let command = match line::read(&bytes?) {
-            None => return refused("neither n and 8 nor 24 lower-case hexadecimal digits"),
+            None | Some(Line::NewSet(_)) => return refused("neither n and 8 nor 24 lower-case hexadecimal digits"),
             Some(Line::New(0)) => return refused("an arena has at least one slot"),
             Some(Line::New(slots)) => {
                 arena = Some(Arena::new(slots));
@@ -160,6 +164,35 @@ fn answers<E: Edition>(options: &Options, out: &mut impl Write) -> Result<(), Fa
             (true, true) => shape::text(arena.root()),
         };
         writeln!(out, "{answer} {shape}")?;
+    }
+    Ok(())
+}
+
+/// Writes what the plain arena answers, as `answers` writes it: a line for
+/// every command, with no shape from an arena's first take on. In the input
+/// `s` begins the set's arenas.
+fn plain(out: &mut impl Write) -> Result<(), Failure> {
+    let mut arena: Option<(Reading, Plain)> = None;
+    let mut taken = false;
+    for (index, bytes) in io::stdin().lock().split(b'\n').enumerate() {
+        let refused = |why: &str| Err(Failure::Caller(format!("line {}: {why}", index + 1)));
+        let (reading, slots) = match line::read(&bytes?) {
+            None => return refused("neither n or s and 8 nor 24 lower-case hexadecimal digits"),
+            Some(Line::New(slots)) => (Reading::Map, slots),
+            Some(Line::NewSet(slots)) => (Reading::Set, slots),
+            Some(Line::Command(command)) => {
+                let Some((reading, arena)) = &mut arena else { return refused("a command before the first arena") };
+                for word in arena.ask(*reading, &[command.number, command.key, command.value]) {
+                    write!(out, "{word:08x}")?;
+                }
+                taken |= matches!(command.number, 9 | 10);
+                let shape = if taken { "--------".to_string() } else { format!("{:08x}", arena.shape_sum()) };
+                writeln!(out, " {shape}")?;
+                continue;
+            }
+        };
+        arena = Some((reading, Plain::new(1, slots)));
+        taken = false;
     }
     Ok(())
 }

@@ -36,11 +36,17 @@ pub fn sum<V: Word>(root: Option<&Node<u32, V>>) -> u32 {
     while let Some(node) = waiting.pop() {
         let left = node.left.as_deref();
         let right = node.right.as_deref();
-        total = (total + node_sum(node.key, node.value.word(), left.map(|n| n.key), right.map(|n| n.key))) % P;
+        total = with_node(total, node.key, node.value.word(), left.map(|n| n.key), right.map(|n| n.key));
         waiting.extend(left);
         waiting.extend(right);
     }
-    total as u32
+    total
+}
+
+/// A sum with one node's share added: its key and value, and its children's
+/// keys.
+pub fn with_node(total: u32, key: u32, value: u32, left: Option<u32>, right: Option<u32>) -> u32 {
+    ((u64::from(total) + node_sum(key, value, left, right)) % P) as u32
 }
 
 /// One node's share, below P: a sum of halves, each with its own factor, then
