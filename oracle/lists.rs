@@ -5,7 +5,7 @@ use crate::line::Command;
 use std::io::{self, Write};
 
 /// The splitmix64 generator (Steele, Lea and Flood, 2014).
-struct Random(u64);
+pub struct Random(pub u64);
 
 impl Random {
     fn word(&mut self) -> u32 {
@@ -17,7 +17,7 @@ impl Random {
     }
 
     /// A number below `limit`, which is at least 1.
-    fn below(&mut self, limit: u32) -> u32 {
+    pub fn below(&mut self, limit: u32) -> u32 {
         (u64::from(self.word()) * u64::from(limit) >> 32) as u32
     }
 }

@@ -7,6 +7,7 @@ mod edition;
 mod line;
 mod lists;
 mod plain;
+mod rows;
 mod shape;
 #[allow(dead_code)]
 mod splay;
@@ -24,6 +25,7 @@ const USAGE: &str = "usage:
   oracle plain                                                     the same from document 01's arena in plain words
   oracle lists map|set                                             the recorded input
   oracle random SEED COUNT N KEYS                                  a random input
+  oracle rows                                                      the table of rows, from the plain arena
 numbers are decimal; K, N and KEYS are at least 1";
 
 /// The Rust drops a tree by calls as deep as the tree, and a tree may be as
@@ -87,6 +89,7 @@ fn run() -> Result<(), Failure> {
         ["plain"] => plain(&mut out)?,
         ["lists", "map"] => Lists::new(&mut out).map()?,
         ["lists", "set"] => Lists::new(&mut out).set()?,
+        ["rows"] => rows::write(&mut out)?,
         ["random", seed, count, slots, keys] => {
             let seed = number(seed, 0, u64::MAX)?;
             let count = number(count, 0, u64::MAX)?;

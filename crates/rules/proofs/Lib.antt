@@ -28,6 +28,6 @@ pub mod Happened
 pub mod Cut
 -- The demands.
 pub mod Demands
--- The table of twelve arenas, and more cases.
-pub mod Twelve
+-- The table of twelve arenas, the rows of a second source, and more cases.
+pub mod Rows
 pub mod Cases

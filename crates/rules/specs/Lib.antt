@@ -24,4 +24,6 @@ pub mod Calls
 pub mod History
 pub mod Demands
 pub mod Lines
+pub mod Story
 pub mod Twelve
+pub mod Rows
