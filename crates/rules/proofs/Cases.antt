@@ -1,22 +1,27 @@
--- Worked cases beyond the twelve arenas, computed from the definitions: every command and code, runs and single commands, the set, making,
--- refusals and their order, the history, the line program.
+-- Worked cases beyond the tables of arenas, computed from the definitions: every command and code, runs and single commands, the set,
+-- making, how many slots there may be, refusals and their order, the history, every byte as a digit, the line program.
 use mathlib.Core.List.{List, [], _∷_, _++_, map}
+use mathlib.Core.Option.{Option, none as nil, some}
 use mathlib.Core.Path.{_≡_, refl, _∙_, ap}
 use Prim.Native.Char.{code}
-use Prim.Native.Nat.{ℕ, zero, suc}
+use Prim.Native.Nat.{ℕ, zero, suc, _+_, _*_, _≤_}
 use Prim.Native.String.{String, [] as empty, _∷_ as _then_}
 use native.Mathlib.Omega.{arith}
+use lib.ListN.{length, getD}
 use Rattle.rules.specs.Edition.{M, tags}
 use Rattle.rules.specs.Command.{Command, get, next, prev, remove, write, insert, min, max, take-first, take-last, clear, len, unknown, command, FOUND, ABSENT, NEW, REPLACED, REMOVED, FULL, COUNT, UNKNOWN, SIZE, SHORT, DAMAGED, RAGGED, NO-ROOM, BAD-LINE, code-number}
 use Rattle.rules.specs.Live.{last, but-last, find, put, without, pair, after}
 use Rattle.rules.specs.Tree.{hang}
 use Rattle.rules.specs.Splay.{walk, splay}
 use Rattle.rules.specs.Perform.{State, counting, new, room, outermost, bring, if-present, inserted, seek, raise, perform}
-use Rattle.rules.specs.Arena.{Slot, first-link, link-after, held, free-slot, Chained, slot-of, slot-at, all-words, words, WellFormed}
+use Rattle.rules.specs.Arena.{Slot, first-link, link-after, held, free-slot, Chained, slot-of, slot-at, all-words, words, over, WellFormed}
 use Rattle.rules.specs.Reading.{as-map, as-set}
 use Rattle.rules.specs.Calls.{Replied, Ran, make, Checked, damaged, perform-as, One, commands, refusal, perform-all, all-answers, run-on, Run}
 use Rattle.rules.specs.History.{one, run, after-all, after-call, live}
 use Rattle.rules.specs.Lines.{digit, byte-of, digits, number-from, words-from, spelled, all-spelled, lines-after, lines, line-command, answer-line, respond, output, program-slots, program}
+use Rattle.rules.proofs.Order.{tags-lawful}
+use Rattle.rules.proofs.Words.{over-formed}
+use Rattle.rules.proofs.Kept.{new-sound}
 
 unfoldable zeros : ℕ → List ℕ
 zeros zero = []
@@ -112,6 +117,18 @@ program-arena : make tags program-slots (zeros 4100) ≡ record { returned = 0; 
 unfolding zeros make words new counting all-words slot-of held link-after
 program-arena = refl
 
+-- "N, the slots, 1 to 4,095": no words with N 0 or above 4,095 are a well-formed arena, whatever else stands in them; and for every N
+-- between, the words of a new arena are one.
+no-slots : (w : List ℕ) (st : State ℕ) → getD w 0 0 ≡ 0 → ¬ WellFormed tags w st
+no-slots w st e a = omega (arith, a .slots, a .some-slot)
+
+too-many-slots : (w : List ℕ) (st : State ℕ) → 4096 ≤ getD w 0 0 → ¬ WellFormed tags w st
+too-many-slots w st h a = omega (arith, a .slots, a .in-range)
+
+each-number-of-slots : (n : ℕ) (w : List ℕ) → 1 ≤ n → n ≤ 4095 → 4 + 4 * n ≤ length w → WellFormed tags (over tags (new n) w) (new n)
+unfolding new
+each-number-of-slots n w h k p = over-formed tags tags-lawful (new-sound tags n h k) w p
+
 -- What a run returns, with an empty list, 2, 4 and 3 command words and so many answer words.
 abbrev returns : List ℕ → ℕ → ℕ
 returns cs room = run-on tags as-map cs (zeros 12) (zeros room) (new 2) .returned
@@ -172,7 +189,23 @@ unfoldable text : List String → List ℕ
 text [] = []
 text (s ∷ more) = bytes s ++ (10 ∷ text more)
 
--- "A whole case" of the line program.
+-- A byte is a digit where it is one of 0 to 9 or a to f, and nowhere else, of all 256; and the bytes of the digits.
+unfoldable no-digits : ℕ → List (Option ℕ)
+no-digits zero = []
+no-digits (suc n) = nil ∷ no-digits n
+
+all-bytes : map digit (counting 256 0)
+    ≡ no-digits 48
+    ++ (some 0 ∷ some 1 ∷ some 2 ∷ some 3 ∷ some 4 ∷ some 5 ∷ some 6 ∷ some 7 ∷ some 8 ∷ some 9 ∷ no-digits 39)
+    ++ (some 10 ∷ some 11 ∷ some 12 ∷ some 13 ∷ some 14 ∷ some 15 ∷ no-digits 153)
+unfolding no-digits counting digit
+all-bytes = refl
+
+all-digits : map byte-of (counting 16 0) ≡ bytes "0123456789abcdef"
+unfolding bytes counting byte-of
+all-digits = refl
+
+-- "Whole case" of the line program.
 whole-case : program (text ("000000050000000500000032" ∷ "000000010000000500000000" ∷ "xyz" ∷ "000000060000000700000000" ∷ []))
     ≡ text
     ("00000002000000050000000000000000"
