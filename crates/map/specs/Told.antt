@@ -1,9 +1,11 @@
--- Answers as words, how a list is read, and what a step and the steps of a run leave.
+-- Answers as words, how a list is read, a number and an answer for keys alone, and what a step and the steps of a run leave.
 use mathlib.Core.Bool.{Bool, true, false}
 use mathlib.Core.List.{List, [], _∷_, _++_}
 use mathlib.Core.Path.{_≡_}
 use Prim.Native.Nat.{ℕ, _*_, _/_}
+use lib.Dec.{eqb}
 use lib.ListN.{length, drop}
+use Rattle.rules.specs.Order.{choose}
 use Rattle.rules.specs.Edition.{tags}
 use Rattle.rules.specs.Command.{Command, answer-words}
 use Rattle.rules.specs.Perform.{State}
@@ -20,6 +22,14 @@ four r = r .code ∷ r .key ∷ r .value ∷ r .count ∷ []
 abbrev pub reading : Bool → Reading
 reading true = as-set
 reading false = as-map
+
+-- For keys alone a command is done by its own number, but 2 by 0, which is unknown to the map too.
+abbrev pub number-for-keys : ℕ → ℕ
+number-for-keys n = choose (eqb n 2) 0 n
+
+-- For keys alone an answer's words are its own, but the value is 0 unless the code is 6, COUNT.
+abbrev pub answer-for-keys : Answer → Answer
+answer-for-keys r = record { code = r .code; key = r .key; value = choose (eqb (r .code) 6) (r .value) 0; count = r .count }
 
 -- One command is done, and its answer stands at the front of the lent words; those behind it stay.
 pub record Stepped (r : Reading) (c : Command ℕ) (st : State ℕ) (w w′ out out′ : List ℕ) : Type 0 where

@@ -6,10 +6,12 @@ ghost use Prim.Native.Nat.{ℕ};
 ghost use Rattle.rules.specs.Command as rules;
 ghost use Rattle.rules.specs.Reading.{as-set, read-as, answer-as};
 ghost use Rattle.commands.specs.Did.{Says};
+ghost use Rattle.map.specs.Told.{number-for-keys, answer-for-keys};
 
-// The number by which the map does what the set's command is, at value 0: the number itself, but for 2.
+// The number by which the map does what the set's command is, at value 0: the number itself, but 0 for 2.
 pub fn number(number: u32) -> u32
-    ensures { λ r. ⌜ ((k v : ℕ) → rules.command r k 0 ≡ read-as as-set (rules.command number k v)) ⌝ }
+    ensures { λ r. ⌜ (r ≡ number-for-keys number)
+        × ((k v : ℕ) → rules.command r k 0 ≡ read-as as-set (rules.command number k v)) ⌝ }
 {
     if number == 2 {
         return 0;
@@ -19,7 +21,8 @@ pub fn number(number: u32) -> u32
 
 // The map's answer as the set words it: the value is 0, but a COUNT's.
 pub fn answer(r: Answer) -> Answer
-    ensures { λ s. ⌜ ((m : rules.Answer ℕ) → Says r m → Says s (answer-as as-set m)) ⌝ }
+    ensures { λ s. ⌜ (s ≡ answer-for-keys r)
+        × ((m : rules.Answer ℕ) → Says r m → Says s (answer-as as-set m)) ⌝ }
 {
     if r.code == 6 {
         return r;

@@ -21,7 +21,7 @@ returns : tie.Need-returns
 returns c =
     let m = c .before .before .before in
     let s = m .before .before .before .before in
-    one-as-set (command (s .args .number) (s .args .key) (s .args .value)) _ (m .before .number .ensures (s .args .key) (s .args .value)) (c .answer .ensures) (m .one .ensures)
+    one-as-set (command (s .args .number) (s .args .key) (s .args .value)) _ (m .before .number .ensures .1 (s .args .key) (s .args .value)) (c .answer .ensures .1) (m .one .ensures)
 
 pub one-spec : {M : Type 1} → statement M
 one-spec = tie.close (tie.spec number-requires one-requires answer-requires same-length returns)

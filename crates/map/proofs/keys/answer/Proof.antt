@@ -1,13 +1,15 @@
 -- `map::keys::answer` meets its contract.
+use mathlib.Core.Path.{refl}
+use borrow.Author.Tests.{eq-eqb, ne-eqb}
 use Rattle.map.proofs.Reading.{keeps-count, drops-value}
 use Rattle.map.proofs.keys.answer.Statement.{statement}
 use Rattle.map.proofs.keys.answer.Tie as tie
 
 returns : tie.Need-returns
-returns c = keeps-count (c .if1 .taken)
+returns c = (rw (eq-eqb _ 6 (c .if1 .taken)) refl, keeps-count (c .if1 .taken))
 
 returns-2 : tie.Need-returns-2
-returns-2 c = drops-value (c .if1 .left)
+returns-2 c = (rw (ne-eqb _ 6 (c .if1 .left)) refl, drops-value (c .if1 .left))
 
 pub answer-spec : {M : Type 1} → statement M
 answer-spec = tie.close (tie.spec returns returns-2)

@@ -23,7 +23,7 @@ returns c st f =
     let n = m .before in
     let s = n .before .before .before .before in
     rw (n .before .before .if1 .taken)
-    (did-as-set (command (s .args .number) (s .args .key) (s .args .value)) _ (n .number .ensures _ _) st (c .answer .ensures) (m .command .ensures st f))
+    (did-as-set (command (s .args .number) (s .args .key) (s .args .value)) _ (n .number .ensures .1 _ _) st (c .answer .ensures .1) (m .command .ensures st f))
 
 command-requires-2 : tie.Need-command-requires-2
 command-requires-2 c κs = search needs
