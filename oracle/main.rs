@@ -22,7 +22,7 @@ use std::process::exit;
 
 const USAGE: &str = "usage:
   oracle answers [--set] [--shapes] [--every K] [--drain-shapes]   answers to the input on stdin
-  oracle plain                                                     the same from document 01's arena in plain words
+  oracle plain                                                     the same from the arena in plain words
   oracle lists map|set                                             the recorded input
   oracle random SEED COUNT N KEYS                                  a random input
   oracle rows                                                      the table of rows, from the plain arena

@@ -1,7 +1,7 @@
-//! Document 01's arena once more: its words in a vector, and the twelve
+//! The arena of docs/RULES.md once more: its words in a vector, and the twelve
 //! commands straight from its text. It is a second source, also for what the
 //! Rust has no likeness of: slots, the free chain, takes among other
-//! commands. It is made to be read beside document 01 and not to be fast;
+//! commands. It is made to be read beside that page and not to be fast;
 //! `record` holds it to the Rust's recorded answers.
 
 use crate::arena::{ABSENT, COUNT, FOUND, FULL, NEW, REMOVED, REPLACED, UNKNOWN};

@@ -115,7 +115,7 @@ pub fn write(out: &mut impl Write) -> io::Result<()> {
 }
 
 const HEAD: &str = "\
--- Rows from a second source: an arena in plain Rust, written from document 01's text (`oracle/plain.rs`) and held to the answers of the
+-- Rows from a second source: an arena in plain Rust, written from the rules in words (`oracle/plain.rs`) and held to the answers of the
 -- crate itself. `oracle/record` makes this file; nothing in it is written by hand. The theorem is in proofs/Rows.antt.
 use mathlib.Core.List.{List, [], _∷_}
 use Rattle.rules.specs.Reading.{as-map, as-set}
@@ -146,7 +146,7 @@ fn stories() -> Vec<Story> {
     all
 }
 
-/// Document 01's P1 to P12, which stand as they are in Twelve.antt.
+/// P1 to P12 of docs/RULES.md, which stand as they are in Twelve.antt.
 fn twelve() -> [Story; 3] {
     [
         Story::new("P1 to P9", 2).then(

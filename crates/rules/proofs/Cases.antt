@@ -117,7 +117,7 @@ program-arena : make tags program-slots (zeros 4100) ≡ record { returned = 0; 
 unfolding zeros make words new counting all-words slot-of held link-after
 program-arena = refl
 
--- "N, the slots, 1 to 4,095": no words with N 0 or above 4,095 are a well-formed arena, whatever else stands in them; and for every N
+-- "N, the number of slots, from 1 to 4,095": no words with N 0 or above 4,095 are a well-formed arena, whatever else stands in them; and for every N
 -- between, the words of a new arena are one.
 no-slots : (w : List ℕ) (st : State ℕ) → getD w 0 0 ≡ 0 → ¬ WellFormed tags w st
 no-slots w st e a = omega (arith, a .slots, a .some-slot)
@@ -205,7 +205,7 @@ all-digits : map byte-of (counting 16 0) ≡ bytes "0123456789abcdef"
 unfolding bytes counting byte-of
 all-digits = refl
 
--- "Whole case" of the line program.
+-- "A whole case" of the line program.
 whole-case : program (text ("000000050000000500000032" ∷ "000000010000000500000000" ∷ "xyz" ∷ "000000060000000700000000" ∷ []))
     ≡ text
     ("00000002000000050000000000000000"

@@ -1,4 +1,4 @@
--- The twelve arenas of document 01, and the rows of the second source: every answer and every word, by computation.
+-- The twelve arenas of docs/RULES.md, and the rows of the second source: every answer and every word, by computation.
 use mathlib.Core.List.{[], _∷_}
 use mathlib.Core.Path.{_≡_, refl}
 use Rattle.rules.specs.Edition.{M, tags}

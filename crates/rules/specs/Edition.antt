@@ -22,6 +22,6 @@ M = 4294967295
 abbrev pub most-slots : ℕ
 most-slots = 4095
 
--- "A key is one word": "the group times 65536, plus the element".
+-- "A key is one word", and "keys are compared as numbers".
 abbrev pub tags : Edition ℕ
 tags = record { order = by-number; zero-key = 0; width = 1; spell = λ k. k ∷ []; key-at = λ w i. getD w i 0 }

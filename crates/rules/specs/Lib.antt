@@ -9,7 +9,7 @@
 --   "The line program": Lines;
 --   "The live entries": Live (after each command, with no tree), History (after calls);
 --   "The demands": Demands (what it is for calls to have happened, and what has to hold of them; the theorems are in proofs/Demands.antt);
---   "Twelve arenas": Twelve.
+--   "Twelve arenas": Story (how a table of worked arenas is read), Twelve; Rows, more of the same from a second source.
 -- What is proved of them stands in proofs/, and worked cases in proofs/Cases.antt.
 pub mod Order
 pub mod Edition

@@ -53,7 +53,8 @@ module _ {K : Type 0} where
   abbrev pub freeing : ℕ → Tree K → State K → State K
   freeing s t st = record { slots = st .slots; tree = t; free = s ∷ st .free }
 
-  -- "5 FULL": "the key is not there and the size is N".
+  -- "5 FULL": "the key is not there and the size is N". (Below N the chain has a first slot, `rooms` in proofs/Brought.antt; so the size
+  -- alone decides.)
   unfoldable pub room : State K → Room
   room st = choose (eqb (size (st .tree)) (st .slots)) full (first-of (st .free))
 

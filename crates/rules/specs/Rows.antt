@@ -1,4 +1,4 @@
--- Rows from a second source: an arena in plain Rust, written from document 01's text (`oracle/plain.rs`) and held to the answers of the
+-- Rows from a second source: an arena in plain Rust, written from the rules in words (`oracle/plain.rs`) and held to the answers of the
 -- crate itself. `oracle/record` makes this file; nothing in it is written by hand. The theorem is in proofs/Rows.antt.
 use mathlib.Core.List.{List, [], _∷_}
 use Rattle.rules.specs.Reading.{as-map, as-set}

@@ -1,4 +1,4 @@
--- "Twelve arenas to prove": the table of document 01, and one row more. The theorem is in proofs/Rows.antt.
+-- "Twelve arenas": the table of docs/RULES.md. The theorem is in proofs/Rows.antt.
 use mathlib.Core.List.{List, [], _∷_}
 use Rattle.rules.specs.Reading.{as-map}
 use Rattle.rules.specs.Story.{before, row, Story, story}
@@ -23,7 +23,7 @@ twelve =
     ∷ before as-map "5 3 0"
     ∷ before as-map "5 4 0"
     ∷ row as-map "1 1 0" "0 1 0 6" "4 1 4 0, 1 0 0 3, 2 0 0 0, 3 0 2 4, 4 0 0 0"
-    -- Not in document 01: a remove whose left subtree has its largest key below its root, so that the second splay shows.
+    -- "None of the twelve": a remove whose left subtree has its largest key below its root, so that the second splay shows.
     ∷ row as-map "6 3 0" "4 3 0 6" "4 2 3 3, 1 0 0 0, 2 0 1 4, 0 0 0 M, 4 0 0 0"
     ∷ [])
     -- P11 and P12
