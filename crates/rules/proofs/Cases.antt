@@ -117,8 +117,8 @@ program-arena : make tags program-slots (zeros 4100) ≡ record { returned = 0; 
 unfolding zeros make words new counting all-words slot-of held link-after
 program-arena = refl
 
--- "N, the number of slots, from 1 to 4,095": no words with N 0 or above 4,095 are a well-formed arena, whatever else stands in them; and for every N
--- between, the words of a new arena are one.
+-- "N, the number of slots, from 1 to 4,095": no words with N 0 or above 4,095 are a well-formed arena, whatever else stands in them; and
+-- for every N between, the words of a new arena are one.
 no-slots : (w : List ℕ) (st : State ℕ) → getD w 0 0 ≡ 0 → ¬ WellFormed tags w st
 no-slots w st e a = omega (arith, a .slots, a .some-slot)
 
