@@ -1,13 +1,4 @@
--- Why each command's function does what the rules say.
-pub mod Settle
-pub mod Root
-pub mod Present
+-- Why a new arena's words are the rules', and why a command on a tree is one on an arena.
 pub mod Chaining
-pub mod Stores
-pub mod Release
-pub mod Ends
-pub mod Grow
-pub mod Added
 pub mod Plain
-pub mod Walks
-pub mod Nearest
+pub mod Whole

@@ -1,49 +1,43 @@
-// The twelve commands on an arena: the port of tree.rs. Every function here may assume a well-formed arena, and leaves one.
-mod answer;
-mod change;
-mod lookup;
+// The twelve commands: on one tree with a head of its own (`obey`), and on an arena, whose head is its words 1 to 3 (`command`); and the
+// words of a new arena (`fresh`). `obey` may assume that a tree and its free chain stand under their head, in slots within the words,
+// `command` that the arena is well formed, `fresh` that the words are there.
 mod making;
-mod neighbours;
+mod obeying;
 
-pub use answer::Answer;
-pub use answer::bare;
-use answer::counted;
-use change::insert;
-use change::remove;
-use change::take;
-use lookup::get;
-use lookup::write;
+pub use heads::Answer;
+pub use heads::Done;
+pub use heads::Head;
+pub use heads::bare;
 use making::clear;
 pub use making::fresh;
-use neighbours::neighbour;
-use neighbours::outer;
+pub use obeying::obey;
 ghost use Prim.Native.Nat.{ℕ};
-ghost use Rattle.rules.specs.Edition.{tags};
+ghost use Rattle.rules.specs.Edition.{edition, Spells};
 ghost use Rattle.rules.specs.Command.{command};
 ghost use Rattle.rules.specs.Perform.{State, perform};
 ghost use Rattle.rules.specs.Arena.{WellFormed};
-ghost use Rattle.commands.specs.Did.{Formed, Did};
+ghost use Rattle.heads.specs.Did.{Formed, Did};
 
 // The command with that number.
-pub fn command(a: &mut [u32], number: u32, key: u32, value: u32) -> Answer
-    requires { ⌜ Formed (now a) ⌝ }
-    ensures { λ r. ⌜ ((st : State ℕ) → WellFormed tags (now (a .entry)) st →
-        Did (perform tags (command number key value) st) (now (a .entry)) (now (a .exit)) r) ⌝ }
+pub fn command(a: &mut [u32], width: usize, number: u32, key: u64, value: u32) -> Answer
+    requires { ⌜ Formed width (now a) ⌝ }
+    requires { ⌜ Spells width key ⌝ }
+    ensures { λ r. ⌜ ((st : State ℕ) → WellFormed (edition width) (now (a .entry)) st →
+        Did width (perform (edition width) (command number key value) st) (now (a .entry)) (now (a .exit)) r) ⌝ }
 {
-    match number {
-        0 => bare(7, 0),
-        1 => get(a, key),
-        2 => write(a, key, value),
-        3 => neighbour(a, key, 2, 3),
-        4 => neighbour(a, key, 3, 2),
-        5 => insert(a, key, value),
-        6 => remove(a, key),
-        7 => outer(a, 2),
-        8 => outer(a, 3),
-        9 => take(a, 2, 3),
-        10 => take(a, 3, 2),
-        11 => clear(a),
-        12 => counted(a[2]),
-        13..=4294967295 => bare(7, 0),
+    if number == 11 {
+        return clear(a, width);
     }
+    let n = a[0];
+    let h = Head {
+        root: a[1],
+        size: a[2],
+        free: a[3],
+    };
+    let d = obey(a, width, h, n, number, key, value);
+    let to = d.head;
+    a[1] = to.root;
+    a[2] = to.size;
+    a[3] = to.free;
+    d.answer
 }

@@ -10,11 +10,11 @@ use lib.Dec.{eqb}
 use lib.ListN.{getD}
 use borrow.Author.Tests.{eqb-true, eqb-false}
 use Rattle.rules.specs.Order.{right}
-use Rattle.rules.specs.Edition.{Edition, M, tags}
+use Rattle.rules.specs.Edition.{Edition, M, edition}
 use Rattle.rules.specs.Arena.{Slot, first-link, free-slot, slot-at}
 use Rattle.rules.proofs.Hit.{hit-other}
 use Rattle.rules.proofs.Pigeons.{met-below}
-use Rattle.node.proofs.Tags.{key-word, value-word, link-word, slot-same}
+use Rattle.node.proofs.Words.{value-word, link-word, slot-same}
 use Rattle.formed.specs.Verdict.{Tells, there, nowhere, ChainStands}
 
 module _ {K : Type 0} (ed : Edition K) (w : List ℕ) (n : ℕ) where
@@ -89,20 +89,20 @@ module _ {K : Type 0} (ed : Edition K) (w : List ℕ) (n : ℕ) where
         by false q = refused (λ r. eqb-false count 0 q (none-left (r .0) (r .1)))
 
 -- A slot is free where its words say so: "key 0, value 0", and "M on its right".
-pub record FreeWords (w : List ℕ) (x : ℕ) : Type 0 where
-  pub key : getD w (4 * x + 0) 0 ≡ 0
-  pub value : getD w (4 * x + 1) 0 ≡ 0
-  pub right : getD w (4 * x + 3) 0 ≡ M
+pub record FreeWords (wd : ℕ) (w : List ℕ) (x : ℕ) : Type 0 where
+  pub key : (s : ℕ) → x ≡ suc s → slot-at (edition wd) w s .key ≡ 0
+  pub value : getD w ((3 + wd) * x + 1) 0 ≡ 0
+  pub right : getD w ((3 + wd) * x + 3) 0 ≡ M
 
-module _ (w : List ℕ) (x s : ℕ) (e : x ≡ suc s) where
-  pub free-by-words : FreeWords w x → slot-at tags w s ≡ free-slot tags (slot-at tags w s .left)
+module _ (wd : ℕ) (w : List ℕ) (x s : ℕ) (e : x ≡ suc s) where
+  pub free-by-words : FreeWords wd w x → slot-at (edition wd) w s ≡ free-slot (edition wd) (slot-at (edition wd) w s .left)
   free-by-words h =
-      slot-same _ _ (sym (key-word w x s e) ∙ h .key) (sym (value-word w x s e) ∙ h .value) refl (sym (link-word right w x s e) ∙ h .right)
+      slot-same _ _ (h .key s e) (sym (value-word wd w x s e) ∙ h .value) refl (sym (link-word right wd w x s e) ∙ h .right)
 
-  pub words-of-free : slot-at tags w s ≡ free-slot tags (slot-at tags w s .left) → FreeWords w x
+  pub words-of-free : slot-at (edition wd) w s ≡ free-slot (edition wd) (slot-at (edition wd) w s .left) → FreeWords wd w x
   words-of-free f =
       record {
-        key = key-word w x s e ∙ ap (λ (i : Slot ℕ). i .key) f;
-        value = value-word w x s e ∙ ap (λ (i : Slot ℕ). i .value) f;
-        right = link-word right w x s e ∙ ap (λ (i : Slot ℕ). i .right) f;
+        key = λ t o. (let i : t ≡ s = omega arith in rw i (ap (λ (i : Slot ℕ). i .key) f));
+        value = value-word wd w x s e ∙ ap (λ (i : Slot ℕ). i .value) f;
+        right = link-word right wd w x s e ∙ ap (λ (i : Slot ℕ). i .right) f;
       }

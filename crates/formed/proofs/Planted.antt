@@ -9,7 +9,7 @@ use lib.Dec.{eqb}
 use lib.ListN.{length}
 use borrow.Author.Tests.{eqb-true, eqb-false}
 use Rattle.rules.specs.Order.{left, toward}
-use Rattle.rules.specs.Edition.{Edition, tags}
+use Rattle.rules.specs.Edition.{Edition, edition}
 use Rattle.rules.specs.Live.{Ascending}
 use Rattle.rules.specs.Tree.{Tree, times}
 use Rattle.rules.specs.Arena.{listed, slot-at}
@@ -63,11 +63,11 @@ module _ {K : Type 0} (ed : Edition K) (laws : Lawful ed) (w : List ℕ) (n root
       by true q = planted (all-met ed (slot-at ed w) n size a e f (eqb-true count size q))
       by false q = not-planted (λ r. eqb-false count size q (must-be-all ed (slot-at ed w) n size a e f r))
 
--- A tag is above the last one where the two are compared so, or where there is no last.
-pub above-last : (count last k : ℕ) → (0 < count → last < k) → Above tags (before count last) k
-above-last zero last k h = tt
-above-last (suc count) last k h = order-from (toward left) last k (h (omega arith))
+-- A key is above the last one where the two are compared so, or where there is no last.
+pub above-last : (wd count last k : ℕ) → (0 < count → last < k) → Above (edition wd) (before count last) k
+above-last wd zero last k h = tt
+above-last wd (suc count) last k h = order-from (toward left) last k (h (omega arith))
 
-pub not-above : (count last k : ℕ) → 0 < count → k ≤ last → Above tags (before count last) k → ⊥
-not-above zero last k b h a = omega arith
-not-above (suc count) last k b h a = let c : last < k = order-says (toward left) last k a in omega arith
+pub not-above : (wd count last k : ℕ) → 0 < count → k ≤ last → Above (edition wd) (before count last) k → ⊥
+not-above wd zero last k b h a = omega arith
+not-above wd (suc count) last k b h a = let c : last < k = order-says (toward left) last k a in omega arith

@@ -5,7 +5,7 @@ use mathlib.Core.List.{List}
 use mathlib.Core.Path.{_≡_}
 use Prim.Native.Nat.{ℕ, _≤_}
 use lib.ListN.{length}
-use Rattle.rules.specs.Edition.{Edition, tags}
+use Rattle.rules.specs.Edition.{Edition, edition}
 use Rattle.rules.specs.Live.{Ascending}
 use Rattle.rules.specs.Tree.{Tree, size, times, link-to, entries}
 use Rattle.rules.specs.Arena.{first-link, listed, Holds, Chained, slot-at, WellFormed}
@@ -34,5 +34,5 @@ module _ {K : Type 0} (ed : Edition K) (w : List ℕ) (n : ℕ) where
     pub number : length c ≡ count
 
 -- The arena is "well formed", and there is a state that it holds; or it is not, and holds none.
-abbrev pub Verdict : List ℕ → Bool → Type 0
-Verdict w r = Tells (WellFormed tags w) r
+abbrev pub Verdict : ℕ → List ℕ → Bool → Type 0
+Verdict wd w r = Tells (WellFormed (edition wd) w) r

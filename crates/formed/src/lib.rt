@@ -1,26 +1,26 @@
-// The check of an arena: is it well formed? Nothing is assumed of its words, and none is changed. It goes once over the tree and once
-// over the free chain, in time linear in N, and no call's depth grows: the walk over the tree keeps its way back in scratch words that
-// are lent to it.
-ghost use Prim.Native.Nat.{_+_, _*_, _<_, _≤_};
+// The check of an arena whose keys take `width` words, one or two: is it well formed? Nothing is assumed of its words, and none is changed.
+// It goes once over the tree and once over the free chain, in time linear in N, and no call's depth grows: the walk over the tree keeps its
+// way back in scratch words that are lent to it.
+ghost use Prim.Native.Nat.{_≤_};
 ghost use lib.ListN.{length};
-ghost use Rattle.rules.specs.Edition.{tags};
+ghost use Rattle.rules.specs.Edition.{edition, Width};
+ghost use Rattle.node.specs.Stands.{Inside};
 ghost use Rattle.formed.specs.Verdict.{Tells, TreeStands, ChainStands, Verdict};
+use node::M;
+use node::key_of;
 use node::word;
-
-// The right word of a free slot, which no link can be.
-const M: u32 = 4294967295;
 
 // Does an ordered tree of `size` nodes stand at the root link, with links up to n? It is walked from left to right. The scratch words
 // hold the links whose nodes come after the present subtree, the next of them last; `size` words are enough, since each of those nodes
 // is yet to be counted. Keys that ascend show that no slot is met twice, so nothing is marked.
-fn tree_stands(a: &[u32], n: u32, root: u32, size: usize, work: &mut [u32]) -> bool
-    requires { ⌜ (4 * n + 3 < length (now a)) × (size ≤ length (now work)) ⌝ }
-    ensures { λ r. ⌜ Tells (TreeStands tags (now (a .entry)) n root size) r ⌝ }
+fn tree_stands(a: &[u32], width: usize, n: u32, root: u32, size: usize, work: &mut [u32]) -> bool
+    requires { ⌜ Inside width (now a) n × (size ≤ length (now work)) ⌝ }
+    ensures { λ r. ⌜ Tells (TreeStands (edition width) (now (a .entry)) n root size) r ⌝ }
 {
     let mut x = root;
     let mut waiting: usize = 0;
     let mut count: usize = 0;
-    let mut last: u32 = 0;
+    let mut last: u64 = 0;
     loop {
         if x != 0 {
             if n < x {
@@ -31,14 +31,14 @@ fn tree_stands(a: &[u32], n: u32, root: u32, size: usize, work: &mut [u32]) -> b
             }
             work[waiting] = x;
             waiting += 1;
-            x = word(a, x, 2);
+            x = word(a, width, x, 2);
         } else {
             if waiting == 0 {
                 return count == size;
             }
             waiting -= 1;
             let next = work[waiting];
-            let k = word(a, next, 0);
+            let k = key_of(a, width, next);
             if 0 < count {
                 if k <= last {
                     return false;
@@ -46,15 +46,15 @@ fn tree_stands(a: &[u32], n: u32, root: u32, size: usize, work: &mut [u32]) -> b
             }
             last = k;
             count += 1;
-            x = word(a, next, 3);
+            x = word(a, width, next, 3);
         }
     }
 }
 
 // Does a chain of so many free slots start at the first free link, with links up to n?
-fn chain_stands(a: &[u32], n: u32, first: u32, free: usize) -> bool
-    requires { ⌜ 4 * n + 3 < length (now a) ⌝ }
-    ensures { λ r. ⌜ Tells (ChainStands tags (now (a .entry)) n first free) r ⌝ }
+fn chain_stands(a: &[u32], width: usize, n: u32, first: u32, free: usize) -> bool
+    requires { ⌜ Inside width (now a) n ⌝ }
+    ensures { λ r. ⌜ Tells (ChainStands (edition width) (now (a .entry)) n first free) r ⌝ }
 {
     let mut y = first;
     let mut left = free;
@@ -65,16 +65,16 @@ fn chain_stands(a: &[u32], n: u32, first: u32, free: usize) -> bool
         if left == 0 {
             return false;
         }
-        if word(a, y, 0) != 0 {
+        if key_of(a, width, y) != 0 {
             return false;
         }
-        if word(a, y, 1) != 0 {
+        if word(a, width, y, 1) != 0 {
             return false;
         }
-        if word(a, y, 3) != M {
+        if word(a, width, y, 3) != M {
             return false;
         }
-        y = word(a, y, 2);
+        y = word(a, width, y, 2);
         left -= 1;
     }
     left == 0
@@ -82,8 +82,9 @@ fn chain_stands(a: &[u32], n: u32, first: u32, free: usize) -> bool
 
 // Is the arena well formed? True, and there is a state that it holds; or false, and it holds none. The scratch words are its own, enough
 // for the largest N.
-pub fn check(a: &[u32]) -> bool
-    ensures { λ r. ⌜ Verdict (now (a .entry)) r ⌝ }
+pub fn check(a: &[u32], width: usize) -> bool
+    requires { ⌜ Width width ⌝ }
+    ensures { λ r. ⌜ Verdict width (now (a .entry)) r ⌝ }
 {
     if a.len() < 4 {
         return false;
@@ -95,7 +96,7 @@ pub fn check(a: &[u32]) -> bool
     if 4095 < n {
         return false;
     }
-    if a.len() < 4 + 4 * (n as usize) {
+    if a.len() < 4 + (3 + width) * (n as usize) {
         return false;
     }
     let size = a[2];
@@ -103,8 +104,8 @@ pub fn check(a: &[u32]) -> bool
         return false;
     }
     let mut work = [0u32; 4096];
-    if !tree_stands(a, n, a[1], size as usize, &mut work) {
+    if !tree_stands(a, width, n, a[1], size as usize, &mut work) {
         return false;
     }
-    chain_stands(a, n, a[3], (n - size) as usize)
+    chain_stands(a, width, n, a[3], (n - size) as usize)
 }

@@ -1,3 +1,3 @@
--- Laws of slots: in any memory, and in the words of an arena whose keys are tags.
+-- Laws of slots: in any memory, and in the words of an arena.
 pub mod Memory
-pub mod Tags
+pub mod Words

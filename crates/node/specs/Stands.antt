@@ -1,11 +1,11 @@
 -- A tree that stands in an arena's words, and the words that a call may change.
 use mathlib.Core.List.{List}
 use mathlib.Core.Path.{_≡_}
-use Prim.Native.Nat.{ℕ, suc, _≤_, _<_}
+use Prim.Native.Nat.{ℕ, suc, _+_, _*_, _≤_, _<_}
 use lib.Dec.{eqb}
 use lib.ListN.{length, getD}
 use Rattle.rules.specs.Order.{Side, left, right, other, choose}
-use Rattle.rules.specs.Edition.{Edition, tags}
+use Rattle.rules.specs.Edition.{Edition, edition, Width}
 use Rattle.rules.specs.Tree.{Tree, times, link-to}
 use Rattle.rules.specs.Arena.{Slot, Holds, place, slot-at}
 
@@ -40,8 +40,22 @@ module _ {K : Type 0} (ed : Edition K) where
     pub kept : Kept w w′
     pub same : (s : ℕ) → f s ≡ 0 → slot-at ed w′ s ≡ slot-at ed w s
 
+-- The link x leads to a slot within the words, in an arena of one of the two editions.
+pub record Inside (wd : ℕ) (w : List ℕ) (x : ℕ) : Type 0 where
+  pub width : Width wd
+  pub real : 0 < x
+  pub within : (3 + wd) * x + 3 < length w
+
 -- The slot that the link x leads to holds c. Every other slot, the header and the length are as they were.
-pub record Filled (x : ℕ) (c : Slot ℕ) (w w′ : List ℕ) : Type 0 where
+pub record Filled (wd x : ℕ) (c : Slot ℕ) (w w′ : List ℕ) : Type 0 where
   pub kept : Kept w w′
-  pub here : (s : ℕ) → x ≡ suc s → slot-at tags w′ s ≡ c
-  pub elsewhere : (s : ℕ) → (x ≡ suc s → ⊥) → slot-at tags w′ s ≡ slot-at tags w s
+  pub here : (s : ℕ) → x ≡ suc s → slot-at (edition wd) w′ s ≡ c
+  pub elsewhere : (s : ℕ) → (x ≡ suc s → ⊥) → slot-at (edition wd) w′ s ≡ slot-at (edition wd) w s
+
+-- The slot that the link x leads to holds the key k, and nothing else changes.
+pub record Rekeyed (wd x k : ℕ) (w w′ : List ℕ) : Type 0 where
+  pub kept : Kept w w′
+  pub here : (s : ℕ) → x ≡ suc s
+      → slot-at (edition wd) w′ s
+      ≡ (let c = slot-at (edition wd) w s in record { key = k; value = c .value; left = c .left; right = c .right })
+  pub elsewhere : (s : ℕ) → (x ≡ suc s → ⊥) → slot-at (edition wd) w′ s ≡ slot-at (edition wd) w s

@@ -1,4 +1,4 @@
--- Laws of ascending lists of pairs: a list l ++ (x ∷ r) taken apart at x and put together, and what the functions of demand 3 give of
+-- Laws of ascending lists of pairs: a list l ++ (x ∷ r) taken apart at x, and what the functions of demand 3 give of
 -- it where a key lies right of all of l and left of all of r.
 use mathlib.Core.Bool.{Bool, true, false}
 use mathlib.Core.List.{List, [], _∷_, _++_, append-nil}
@@ -139,7 +139,7 @@ module _ {K : Type 0} (ed : Edition K) where
     lies-on s a b [] e h = tt
     lies-on s a b (x ∷ l) e h = (laws .chain s a b (x .key) e (h .0), lies-on s a b l e (h .1))
 
-    -- An ascending list taken apart, and put together.
+    -- An ascending list taken apart.
     pub apart : (l : List (Pair K)) (x : Pair K) (r : List (Pair K)) → Ascending ed (l ++ (x ∷ r))
         → Ascending ed l × Ascending ed r × Lies right (x .key) l × Lies left (x .key) r
     apart [] x r h = (tt, h .1, tt, before-lies (x .key) r (h .0))
@@ -147,13 +147,3 @@ module _ {K : Type 0} (ed : Edition K) where
         let p = apart l x r (h .1) in
         let b = lies-each left (y .key) l (x ∷ r) (before-lies (y .key) (l ++ (x ∷ r)) (h .0)) in
         ((lies-before (y .key) l (b .0), p .0), p .1, (laws .flip left (y .key) (x .key) (b .1 .0), p .2), p .3)
-
-    pub together : (l : List (Pair K)) (x : Pair K) (r : List (Pair K)) → Ascending ed l → Ascending ed r
-        → Lies right (x .key) l → Lies left (x .key) r → Ascending ed (l ++ (x ∷ r))
-    together [] x r hl hr a b = (lies-before (x .key) r b, hr)
-    together (y ∷ l) x r hl hr a b =
-        let q : ed .order (y .key) (x .key) ≡ toward left = laws .flip right (x .key) (y .key) (a .0) in (
-          lies-before (y .key) (l ++ (x ∷ r))
-              (lies-both left (y .key) l (x ∷ r) (before-lies (y .key) l (hl .0)) (q, lies-on left (y .key) (x .key) r q b)),
-          together l x r (hl .1) hr (a .1) b,
-        )

@@ -3,7 +3,7 @@
 use mathlib.Core.Bool.{Bool, true, false}
 use mathlib.Core.List.{List, [], _∷_, _++_, append-assoc}
 use mathlib.Core.Path.{_≡_, refl, sym}
-use Prim.Native.Nat.{ℕ, _+_}
+use Prim.Native.Nat.{ℕ, _+_, _≤_}
 use native.Mathlib.Omega.{arith}
 use lib.Dec.{eqb}
 use lib.ListN.{length, length-append}
@@ -32,9 +32,9 @@ module _ {K : Type 0} where
     a-slot : (x : ℕ) (more : List ℕ) → eqb (size (st .tree)) (st .slots) ≡ false → st .free ≡ x ∷ more
         → Roomed st (in-slot x more)
 
-  pub rooms : (st : State K) → size (st .tree) + length (st .free) ≡ st .slots → Roomed st (room st)
+  pub rooms : (st : State K) → size (st .tree) ≤ st .slots → st .slots ≤ size (st .tree) + length (st .free) → Roomed st (room st)
   unfolding room
-  rooms st h = by (eqb (size (st .tree)) (st .slots)) refl (st .free) refl
+  rooms st b h = by (eqb (size (st .tree)) (st .slots)) refl (st .free) refl
     where
       by : (b : Bool) → eqb (size (st .tree)) (st .slots) ≡ b → (l : List ℕ) → st .free ≡ l
           → Roomed st (choose b full (first-of l))

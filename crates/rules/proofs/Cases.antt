@@ -1,31 +1,27 @@
--- Worked cases beyond the tables of arenas, computed from the definitions: every command and code, runs and single commands, the set,
--- making, how many slots there may be, refusals and their order, the history, every byte as a digit, the line program.
+-- Worked cases of the first edition beyond the tables of arenas, computed from the definitions: every command and code, runs and single
+-- commands, the set, making, how many slots there may be, refusals and their order, the history, every byte as a digit, the line program.
 use mathlib.Core.List.{List, [], _∷_, _++_, map}
 use mathlib.Core.Option.{Option, none as nil, some}
-use mathlib.Core.Path.{_≡_, refl, _∙_, ap}
-use Prim.Native.Char.{code}
+use mathlib.Core.Path.{_≡_, refl, ap}
 use Prim.Native.Nat.{ℕ, zero, suc, _+_, _*_, _≤_}
-use Prim.Native.String.{String, [] as empty, _∷_ as _then_}
+use Prim.Native.String.{String}
 use native.Mathlib.Omega.{arith}
 use lib.ListN.{length, getD}
-use Rattle.rules.specs.Edition.{M, tags}
+use Rattle.rules.specs.Edition.{M, edition, Width, tags}
 use Rattle.rules.specs.Command.{Command, get, next, prev, remove, write, insert, min, max, take-first, take-last, clear, len, unknown, command, FOUND, ABSENT, NEW, REPLACED, REMOVED, FULL, COUNT, UNKNOWN, SIZE, SHORT, DAMAGED, RAGGED, NO-ROOM, BAD-LINE, code-number}
 use Rattle.rules.specs.Live.{last, but-last, find, put, without, pair, after}
 use Rattle.rules.specs.Tree.{hang}
 use Rattle.rules.specs.Splay.{walk, splay}
 use Rattle.rules.specs.Perform.{State, counting, new, room, outermost, bring, if-present, inserted, seek, raise, perform}
-use Rattle.rules.specs.Arena.{Slot, first-link, link-after, held, free-slot, Chained, slot-of, slot-at, all-words, words, over, WellFormed}
+use Rattle.rules.specs.Arena.{Slot, link-after, held, slot-of, all-words, words, over, WellFormed}
 use Rattle.rules.specs.Reading.{as-map, as-set}
 use Rattle.rules.specs.Calls.{Replied, Ran, make, Checked, damaged, perform-as, One, commands, refusal, perform-all, all-answers, run-on, Run}
 use Rattle.rules.specs.History.{one, run, after-all, after-call, live}
 use Rattle.rules.specs.Lines.{digit, byte-of, digits, number-from, words-from, spelled, all-spelled, lines-after, lines, line-command, answer-line, respond, output, program-slots, program}
-use Rattle.rules.proofs.Order.{tags-lawful}
+use Rattle.rules.proofs.Order.{edition-lawful}
 use Rattle.rules.proofs.Words.{over-formed}
 use Rattle.rules.proofs.Kept.{new-sound}
-
-unfoldable zeros : ℕ → List ℕ
-zeros zero = []
-zeros (suc n) = 0 ∷ zeros n
+use Rattle.rules.proofs.Worked.{zeros, bytes, text, no-free-slot}
 
 -- The command table, with 0, 13 and M, and the codes.
 table : map (λ (n : ℕ). command {K = ℕ} n 8 9) (counting 14 0)
@@ -117,17 +113,19 @@ program-arena : make tags program-slots (zeros 4100) ≡ record { returned = 0; 
 unfolding zeros make words new counting all-words slot-of held link-after
 program-arena = refl
 
--- "N, the number of slots, from 1 to 4,095": no words with N 0 or above 4,095 are a well-formed arena, whatever else stands in them; and
--- for every N between, the words of a new arena are one.
-no-slots : (w : List ℕ) (st : State ℕ) → getD w 0 0 ≡ 0 → ¬ WellFormed tags w st
-no-slots w st e a = omega (arith, a .slots, a .some-slot)
+-- "N, the number of slots, from 1 to 4,095", in both editions: no words with N 0 or above 4,095 are a well-formed arena, whatever else
+-- stands in them; and for every N between, the words of a new arena are one.
+module _ {wd : ℕ} where
+  no-slots : (w : List ℕ) (st : State ℕ) → getD w 0 0 ≡ 0 → ¬ WellFormed (edition wd) w st
+  no-slots w st e a = omega (arith, a .slots, a .some-slot)
 
-too-many-slots : (w : List ℕ) (st : State ℕ) → 4096 ≤ getD w 0 0 → ¬ WellFormed tags w st
-too-many-slots w st h a = omega (arith, a .slots, a .in-range)
+  too-many-slots : (w : List ℕ) (st : State ℕ) → 4096 ≤ getD w 0 0 → ¬ WellFormed (edition wd) w st
+  too-many-slots w st h a = omega (arith, a .slots, a .in-range)
 
-each-number-of-slots : (n : ℕ) (w : List ℕ) → 1 ≤ n → n ≤ 4095 → 4 + 4 * n ≤ length w → WellFormed tags (over tags (new n) w) (new n)
-unfolding new
-each-number-of-slots n w h k p = over-formed tags tags-lawful (new-sound tags n h k) w p
+  each-number-of-slots : (n : ℕ) (w : List ℕ) → Width wd → 1 ≤ n → n ≤ 4095 → 4 + (3 + wd) * n ≤ length w
+      → WellFormed (edition wd) (over (edition wd) (new n) w) (new n)
+  unfolding new
+  each-number-of-slots n w d h k p = over-formed (edition wd) (edition-lawful d) (new-sound (edition wd) n h k) w p
 
 -- What a run returns, with an empty list, 2, 4 and 3 command words and so many answer words.
 abbrev returns : List ℕ → ℕ → ℕ
@@ -150,15 +148,8 @@ abbrev through-tree : List ℕ
 through-tree = 2 ∷ 1 ∷ 1 ∷ 1 ∷ 5 ∷ 50 ∷ 0 ∷ 0 ∷ 0 ∷ 0 ∷ 0 ∷ M ∷ []
 
 through-tree-damaged : (st : State ℕ) → ¬ WellFormed tags through-tree st
-through-tree-damaged st a = no-chain (st .free) (a .first-free) (a .chain)
-  where
-    no-chain : (c : List ℕ) → 1 ≡ first-link c → Chained tags (slot-at tags through-tree) c → ⊥
-    no-chain [] e h = omega arith
-    no-chain (x ∷ c) e h =
-        let z : 0 ≡ x = omega arith in
-        let p : slot-at tags through-tree 0 ≡ free-slot tags (first-link c) = ap (slot-at tags through-tree) z ∙ h .0 in
-        let q : _≡_ {A = ℕ} 5 0 = ap (λ (s : Slot ℕ). s .key) p in
-        omega arith
+through-tree-damaged =
+    no-free-slot 1 through-tree refl (λ next p. let q : _≡_ {A = ℕ} 5 0 = ap (λ (s : Slot ℕ). s .key) p in omega arith)
 
 -- DAMAGED comes before RAGGED, and no word changes.
 through-tree-run : (given : Ran) → Run tags as-map (12 ∷ 0 ∷ []) through-tree (7 ∷ 8 ∷ []) given
@@ -180,15 +171,6 @@ live-after : live tags 2
 unfolding zeros commands refusal last but-last find put without after after-all after-call live
 live-after = refl
 
--- The bytes of a text in ASCII, and of lines that each end with a newline.
-unfoldable bytes : String → List ℕ
-bytes empty = []
-bytes (_then_ c s) = code c ∷ bytes s
-
-unfoldable text : List String → List ℕ
-text [] = []
-text (s ∷ more) = bytes s ++ (10 ∷ text more)
-
 -- A byte is a digit where it is one of 0 to 9 or a to f, and nowhere else, of all 256; and the bytes of the digits.
 unfoldable no-digits : ℕ → List (Option ℕ)
 no-digits zero = []
@@ -206,7 +188,7 @@ unfolding bytes counting byte-of
 all-digits = refl
 
 -- "A whole case" of the line program.
-whole-case : program (text ("000000050000000500000032" ∷ "000000010000000500000000" ∷ "xyz" ∷ "000000060000000700000000" ∷ []))
+whole-case : program tags (text ("000000050000000500000032" ∷ "000000010000000500000000" ∷ "xyz" ∷ "000000060000000700000000" ∷ []))
     ≡ text
     ("00000002000000050000000000000000"
     ∷ "00000000000000050000003200000002"
@@ -220,7 +202,7 @@ whole-case = refl
 abbrev bad-line : String
 bad-line = "0000000f000000000000000000000000"
 
-bad-lines : program
+bad-lines : program tags
     (text
     (""
     ∷ "0000000c0000000000000000\r"
@@ -235,7 +217,7 @@ unfolding bytes text hang walk splay counting new room outermost bring if-presen
 bad-lines = refl
 
 -- Numbers 0, 13 and M, and a last line without its newline: its answer has one.
-last-line : program
+last-line : program tags
     (text ("000000000000000000000000" ∷ "0000000d0000000000000000" ∷ "ffffffffffffffffffffffff" ∷ []) ++ bytes "0000000c0000000000000000")
     ≡ text
     ("00000007000000000000000000000000"
@@ -247,6 +229,6 @@ unfolding bytes text hang walk splay counting new room outermost bring if-presen
 last-line = refl
 
 -- "Without input there is no output."
-no-input : program [] ≡ []
+no-input : program tags [] ≡ []
 unfolding lines-after lines respond output
 no-input = refl

@@ -68,12 +68,7 @@ module _ {K : Type 0} (ed : Edition K) where
 
     -- The first command of words does not change with what follows them.
     key-append : (x : ℕ) (w d : List ℕ) → ed .width ≤ length w → ed .key-at (x ∷ (w ++ d)) 1 ≡ ed .key-at (x ∷ w) 1
-    key-append x w d h =
-        let k : K = ed .key-at (x ∷ w) 1 in
-        let b : List ℕ = drop (1 + ed .width) (x ∷ w) in
-        let e : w ≡ ed .spell k ++ b = laws .respell (x ∷ w) 1 (omega arith) in
-        ap (λ (y : List ℕ). ed .key-at (x ∷ y) 1) (ap (λ (y : List ℕ). y ++ d) e ∙ append-assoc (ed .spell k) b d)
-        ∙ laws .reread (x ∷ []) k (b ++ d)
+    key-append x w d h = laws .ahead (x ∷ w) d 1 (omega arith)
 
     command-append : (w d : List ℕ) → command-size ed ≤ length w → command-at ed (w ++ d) ≡ command-at ed w
     command-append [] d h = absurd (omega arith)

@@ -8,7 +8,7 @@ use Prim.Native.Nat.{ℕ, _*_, _%_, _≤_, _<_}
 use native.Mathlib.Nat.{mul-zero, zero-div}
 use native.Mathlib.Omega.{arith}
 use lib.ListN.{length, take, drop, getD}
-use Rattle.rules.specs.Edition.{Edition, most-slots}
+use Rattle.rules.specs.Edition.{Edition, most-slots, Small}
 use Rattle.rules.specs.Command.{command, insert, FULL, NEW, UNKNOWN, SIZE, SHORT, DAMAGED, RAGGED, NO-ROOM, code-number, accepted, Reply, answer-words, command-size, answer-size}
 use Rattle.rules.specs.Live.{Pair, find, reply}
 use Rattle.rules.specs.Perform.{State, new}
@@ -110,12 +110,12 @@ module _ {K : Type 0} (ed : Edition K) where
     demand-1-run-lengths r cs w buffer given g = run-lengths ed laws r cs g
 
     -- "A run of no commands on a well-formed arena is accepted and changes nothing."
-    pub demand-1-empty-run : (r : Reading) (w buffer : List ℕ) (given : Ran) (st : State K) → WellFormed ed w st → Run ed r [] w buffer given
+    pub demand-1-empty-run : (r : Reading) (w buffer : List ℕ) (given : Ran) (st : State K) → Small w → WellFormed ed w st → Run ed r [] w buffer given
         → given ≡ record { returned = accepted; arena = w; answers = buffer }
     unfolding commands perform-all all-answers
-    demand-1-empty-run r w buffer given st a g =
+    demand-1-empty-run r w buffer given st m a g =
         checked-formed ed a g
-        ∙ rw (refusal-empty ed (length buffer), zero-div (command-size ed), mul-zero (answer-size ed), ← the-words ed laws w a)
+        ∙ rw (refusal-empty ed (length buffer), zero-div (command-size ed), mul-zero (answer-size ed), ← the-words ed laws w m a)
 
     -- DEMAND 2. "On a well-formed arena a command gives the entry, the answer and the count that the Rust gives, and the tree after each
     -- command is, word for word, the tree of these rules." The rules are `perform`, as the map or the set reads the command; that the Rust
@@ -149,8 +149,8 @@ module _ {K : Type 0} (ed : Edition K) where
     pub demand-2-state : (w : List ℕ) (st st′ : State K) → WellFormed ed w st → WellFormed ed w st′ → st ≡ st′
     demand-2-state w st st′ a b = the-state ed a b
 
-    pub demand-2-words : (w : List ℕ) (st : State K) → WellFormed ed w st → w ≡ over ed st w
-    demand-2-words w st a = the-words ed laws w a
+    pub demand-2-words : (w : List ℕ) (st : State K) → Small w → WellFormed ed w st → w ≡ over ed st w
+    demand-2-words w st m a = the-words ed laws w m a
 
     -- DEMAND 3. "Take an arena newly made with N slots and any calls on it, single commands and runs, of the map or of the set, accepted or
     -- refused, in any order, with nobody else writing to it."

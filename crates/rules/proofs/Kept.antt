@@ -10,14 +10,16 @@ use Rattle.rules.specs.Order.{Side, left, right, equal, toward, of-side}
 use Rattle.rules.specs.Edition.{Edition, most-slots}
 use Rattle.rules.specs.Command.{Command, get, next, prev, remove, write, insert, min, max, take-first, take-last, clear, len, unknown}
 use Rattle.rules.specs.Live.{Ascending}
-use Rattle.rules.specs.Tree.{Entry, Tree, none, node, hit, entries, weigh}
+use Rattle.rules.specs.Tree.{Entry, Tree, none, node, hit, entries, weigh, size, times}
 use Rattle.rules.specs.Splay.{splay}
 use Rattle.rules.specs.Perform.{State, Outcome, counting, new, Met, nobody, met, Room, full, in-slot, room, with-tree, hung-on, bring, if-present, found, replaced, removed, inserted, raise, taken, perform}
 use Rattle.rules.specs.Arena.{listed}
+use Rattle.rules.specs.Fit.{Fit, Moving}
 use Rattle.rules.proofs.Order.{Lawful}
 use Rattle.rules.proofs.Hit.{hit-other, hit-cases}
 use Rattle.rules.proofs.Splay.{splay-weighs}
 use Rattle.rules.proofs.Sound.{Sound}
+use Rattle.rules.proofs.WellFormed.{sound-once}
 use Rattle.rules.proofs.After.{after-ascending}
 use Rattle.rules.proofs.Brought.{Roomed, no-slot, a-slot, rooms, Root, Brought, no-root, a-root, brings, hung}
 use Rattle.rules.proofs.Performed.{perform-live}
@@ -70,6 +72,11 @@ module _ {K : Type 0} where
   -- Slots at most move.
   abbrev Moves : State K → State K → Type 0
   Moves st to = (g : ℕ → ℕ) → total g to ≡ total g st
+
+  -- What that comes to: each slot stands as often as before, in the tree and on the chain together.
+  pub record Moved (st to : State K) : Type 0 where
+    pub each : (s : ℕ) → times s (to .tree) + listed s (to .free) ≡ times s (st .tree) + listed s (st .free)
+    pub number : size (to .tree) + length (to .free) ≡ size (st .tree) + length (st .free)
 
 module _ {K : Type 0} (ed : Edition K) where
   pub new-sound : (n : ℕ) → 1 ≤ n → n ≤ most-slots → Sound ed (new n)
@@ -175,6 +182,15 @@ module _ {K : Type 0} (ed : Edition K) where
         ascending = a;
       }
 
+  -- A sound state fits.
+  pub sound-fit : {st : State K} → Sound ed st → Fit ed st
+  sound-fit {st} h =
+      record { in-range = h .in-range; low = omega (arith, h .number); room = omega (arith, h .number); once = sound-once ed h; ascending = h .ascending }
+
+  cleared-sound : (st : State K) → Sound ed st → Sound ed (perform ed clear st .state)
+  unfolding perform
+  cleared-sound st h = new-sound (st .slots) (h .some-slot) (h .in-range)
+
   module _ (laws : Lawful ed) where
     removed-moves : (k : K) (st : State K) (e : Entry K) (l r : Tree K) (n : ℕ) → Root ed k (st .tree) e l r
         → Moves st (removed ed k e l r n st .state)
@@ -183,28 +199,64 @@ module _ {K : Type 0} (ed : Edition K) where
         by : (f : Entry K → ℕ) (m : ℕ) → weigh f (hung-on (splay (ed .order) k l .tree) r) + (f e + m) ≡ weigh f (st .tree) + m
         by f m = omega (arith, h .same-weight f, hung ed laws k l r (h .lefts) (h .ascends) .1 f)
 
-    kept : (c : Command K) (st : State K) → Sound ed st → Moves st (perform ed c st .state) → Sound ed (perform ed c st .state)
-    kept c st h m =
-        moved-sound st (perform ed c st .state) h m (perform-slots c st)
-        (rw (perform-live ed laws c st h .0) (after-ascending ed laws (st .slots) c (entries (st .tree)) (h .ascending)))
+    moves : (c : Command K) → Moving c → (st : State K) → Fit ed st → Moves st (perform ed c st .state)
+    unfolding perform
+    moves (get k) u st h = present-moves k st (found ed) (brings ed laws k (st .tree) (h .ascending)) (λ e l r n. root-moves k st e l r)
+    moves (write k v) u st h = present-moves k st (replaced ed v) (brings ed laws k (st .tree) (h .ascending)) (λ e l r n. root-moves k st e l r)
+    moves (next k) u st h = λ g. rw (splay-weighs (ed .order) k (λ e. g (e .slot)) (st .tree))
+    moves (prev k) u st h = λ g. rw (splay-weighs (ed .order) k (λ e. g (e .slot)) (st .tree))
+    moves (insert k v) u st h = stored-moves k v st (brings ed laws k (st .tree) (h .ascending)) (rooms st (h .low) (h .room))
+    moves (remove k) u st h = present-moves k st (removed ed k) (brings ed laws k (st .tree) (h .ascending)) (removed-moves k st)
+    moves min u st h = λ g. refl
+    moves max u st h = λ g. refl
+    moves take-first u st h = taken-moves left st (st .tree) refl
+    moves take-last u st h = taken-moves right st (st .tree) refl
+    moves clear u st h = absurd u
+    moves len u st h = λ g. refl
+    moves unknown u st h = λ g. refl
+
+    ascends : (c : Command K) (st : State K) → Fit ed st → Ascending ed (entries (perform ed c st .state .tree))
+    ascends c st h = rw (perform-live ed laws c st h .0) (after-ascending ed laws (st .slots) c (entries (st .tree)) (h .ascending))
+
+    -- Each slot stands as often as before, and there are as many.
+    pub perform-moved : (c : Command K) → Moving c → (st : State K) → Fit ed st → Moved st (perform ed c st .state)
+    perform-moved c u st h =
+        let to = perform ed c st .state in
+        let m = moves c u st h in
+        record {
+          each = λ s. omega (arith, m (hit s), sum-listed s (st .free), sum-listed s (to .free));
+          number = omega (arith, m (λ s. 1), sum-length (st .free), sum-length (to .free));
+        }
+
+    -- A state that fits goes on fitting, if there is room for its entries.
+    pub perform-fit : (c : Command K) → Moving c → (st : State K) → Fit ed st → size (perform ed c st .state .tree) ≤ st .slots
+        → Fit ed (perform ed c st .state)
+    perform-fit c u st h b =
+        let q = perform-slots c st in
+        let m = perform-moved c u st h in
+        record {
+          in-range = omega (arith, h .in-range);
+          low = omega arith;
+          room = omega (arith, h .room, m .number);
+          once = λ s. omega (arith, m .each s, h .once s);
+          ascending = ascends c st h;
+        }
+
+    kept : (c : Command K) → Moving c → (st : State K) → Sound ed st → Sound ed (perform ed c st .state)
+    kept c u st h =
+        moved-sound st (perform ed c st .state) h (moves c u st (sound-fit h)) (perform-slots c st) (ascends c st (sound-fit h))
 
     pub perform-sound : (c : Command K) (st : State K) → Sound ed st → Sound ed (perform ed c st .state)
-    unfolding perform
-    perform-sound (get k) st h =
-        kept (get k) st h (present-moves k st (found ed) (brings ed laws k (st .tree) (h .ascending)) (λ e l r n. root-moves k st e l r))
-    perform-sound (write k v) st h =
-        kept (write k v) st h
-        (present-moves k st (replaced ed v) (brings ed laws k (st .tree) (h .ascending)) (λ e l r n. root-moves k st e l r))
-    perform-sound (next k) st h = kept (next k) st h (λ g. rw (splay-weighs (ed .order) k (λ e. g (e .slot)) (st .tree)))
-    perform-sound (prev k) st h = kept (prev k) st h (λ g. rw (splay-weighs (ed .order) k (λ e. g (e .slot)) (st .tree)))
-    perform-sound (insert k v) st h =
-        kept (insert k v) st h (stored-moves k v st (brings ed laws k (st .tree) (h .ascending)) (rooms st (h .number)))
-    perform-sound (remove k) st h =
-        kept (remove k) st h (present-moves k st (removed ed k) (brings ed laws k (st .tree) (h .ascending)) (removed-moves k st))
-    perform-sound min st h = h
-    perform-sound max st h = h
-    perform-sound take-first st h = kept take-first st h (taken-moves left st (st .tree) refl)
-    perform-sound take-last st h = kept take-last st h (taken-moves right st (st .tree) refl)
-    perform-sound clear st h = new-sound (st .slots) (h .some-slot) (h .in-range)
-    perform-sound len st h = h
-    perform-sound unknown st h = h
+    perform-sound (get k) st h = kept (get k) tt st h
+    perform-sound (write k v) st h = kept (write k v) tt st h
+    perform-sound (next k) st h = kept (next k) tt st h
+    perform-sound (prev k) st h = kept (prev k) tt st h
+    perform-sound (insert k v) st h = kept (insert k v) tt st h
+    perform-sound (remove k) st h = kept (remove k) tt st h
+    perform-sound min st h = kept min tt st h
+    perform-sound max st h = kept max tt st h
+    perform-sound take-first st h = kept take-first tt st h
+    perform-sound take-last st h = kept take-last tt st h
+    perform-sound clear st h = cleared-sound st h
+    perform-sound len st h = kept len tt st h
+    perform-sound unknown st h = kept unknown tt st h

@@ -28,6 +28,8 @@ pub mod Happened
 pub mod Cut
 -- The demands.
 pub mod Demands
--- The table of twelve arenas, the rows of a second source, and more cases.
+-- The tables of twelve and of six arenas, the rows of a second source, and more cases.
 pub mod Rows
+pub mod Worked
 pub mod Cases
+pub mod Wide

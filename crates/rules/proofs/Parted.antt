@@ -1,5 +1,5 @@
--- After the splay of an ascending tree, every key left of the root is before the splayed key and every key right of the root is after it: so
--- where the key is not there, the root is "the node of the next key below or above it".
+-- After the splay of an ascending tree, every key left of the root is before the splayed key and every key right of the root is after it:
+-- so where the key is not there, the root is "the node of the next key below or above it".
 use mathlib.Core.List.{_∷_}
 use mathlib.Core.Path.{_≡_}
 use Rattle.rules.specs.Order.{Side, left, right, toward}

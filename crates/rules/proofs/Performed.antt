@@ -1,5 +1,5 @@
--- Demand 3 for each command: of a sound state, the entries afterwards and the answer, besides its comparisons, are those that the list of
--- live entries gives.
+-- Demand 3 for each command: of a state that fits, the entries afterwards and the answer, besides its comparisons, are those that the list
+-- of live entries gives.
 use mathlib.Core.Bool.{Bool, true, false}
 use mathlib.Core.List.{List, [], _∷_, _++_, append-assoc}
 use mathlib.Core.Option.{Option, none as nil, some}
@@ -12,10 +12,10 @@ use Rattle.rules.specs.Command.{Command, get, next, prev, remove, write,
 use Rattle.rules.specs.Live.{Pair, or-else, first, last, but-first, but-last, Ascending, find, above, below, put, without, pair, with-entry, after, reply}
 use Rattle.rules.specs.Tree.{Entry, Tree, none, node, fork, pair-of, entries}
 use Rattle.rules.specs.Splay.{splay}
+use Rattle.rules.specs.Fit.{Fit}
 use Rattle.rules.specs.Perform.{State, Outcome, new, Met, Room, outermost, if-present, found, replaced, removed, inserted, entry-or, seek, neighbour, outer, raise, taken, perform}
 use Rattle.rules.proofs.Order.{Lawful}
 use Rattle.rules.proofs.Splay.{splay-keeps}
-use Rattle.rules.proofs.Sound.{Sound}
 use Rattle.rules.proofs.Ascending.{first-at, last-at, but-last-end, Lies, find-at, put-at, without-at, above-at, below-at, above-none, below-none, lies-on, apart}
 use Rattle.rules.proofs.Brought.{entries-length, Roomed, no-slot, a-slot, rooms, Root, Brought, no-root, a-root, brings, hung}
 
@@ -176,7 +176,7 @@ module _ {K : Type 0} (ed : Edition K) where
     took right st (node e l r) q = raised right r e l st
 
     -- 3, 4 and 7, 8, whole.
-    next-to : (d : Side) (k : K) (st : State K) → Sound ed st
+    next-to : (d : Side) (k : K) (st : State K) → Fit ed st
         → (entries (neighbour ed d k st .state .tree) ≡ entries (st .tree))
         × (said (neighbour ed d k st .answer) ≡ with-entry ed FOUND (nearest d k (entries (st .tree))))
     next-to d k st h =
@@ -187,7 +187,7 @@ module _ {K : Type 0} (ed : Edition K) where
     at-end : (d : Side) (st : State K) → said (outer ed d st .answer) ≡ with-entry ed FOUND (outside d (entries (st .tree)))
     at-end d st = entry-said (outermost d (st .tree) nil) 0 ∙ rw (ends d (st .tree) nil, alone (outside d (entries (st .tree))))
 
-    pub perform-live : (c : Command K) (st : State K) → Sound ed st
+    pub perform-live : (c : Command K) (st : State K) → Fit ed st
         → (entries (perform ed c st .state .tree) ≡ after ed (st .slots) c (entries (st .tree)))
         × (said (perform ed c st .answer) ≡ reply ed (st .slots) c (entries (st .tree)))
     unfolding perform after reply new entries
@@ -195,7 +195,7 @@ module _ {K : Type 0} (ed : Edition K) where
     perform-live (write k v) st h = written k v st (brings ed laws k (st .tree) (h .ascending))
     perform-live (next k) st h = next-to left k st h
     perform-live (prev k) st h = next-to right k st h
-    perform-live (insert k v) st h = stored-in k v st (brings ed laws k (st .tree) (h .ascending)) (rooms st (h .number))
+    perform-live (insert k v) st h = stored-in k v st (brings ed laws k (st .tree) (h .ascending)) (rooms st (h .low) (h .room))
     perform-live (remove k) st h = dropped k st (brings ed laws k (st .tree) (h .ascending))
     perform-live min st h = (refl, at-end left st)
     perform-live max st h = (refl, at-end right st)

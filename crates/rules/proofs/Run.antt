@@ -13,7 +13,7 @@ use Rattle.rules.specs.History.{after-all, replies-all}
 use Rattle.rules.proofs.Order.{Lawful}
 use Rattle.rules.proofs.Sound.{Sound}
 use Rattle.rules.proofs.Performed.{perform-live}
-use Rattle.rules.proofs.Kept.{perform-slots, perform-sound}
+use Rattle.rules.proofs.Kept.{sound-fit, perform-slots, perform-sound}
 
 module _ {K : Type 0} where
   -- What was performed, and then more from the state that it left.
@@ -53,7 +53,7 @@ module _ {K : Type 0} (ed : Edition K) (r : Reading) where
         × (said (perform-as ed r c st .answer) ≡ reply-as r (reply ed (st .slots) (read-as r c) (entries (st .tree))))
     unfolding perform-as
     perform-as-live c st h =
-        let p = perform-live ed laws (read-as r c) st h in (p .0, ap (reply-as r) (p .1))
+        let p = perform-live ed laws (read-as r c) st (sound-fit ed h) in (p .0, ap (reply-as r) (p .1))
 
     pub perform-all-sound : (cs : List (Command K)) (st : State K) → Sound ed st → Sound ed (perform-all ed r cs st .state)
     unfolding perform-all

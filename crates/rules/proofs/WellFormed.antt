@@ -9,7 +9,7 @@ use lib.Dec.{leb}
 use lib.ListN.{length, getD, drop}
 use lib.Seq.{drop-cons}
 use borrow.Author.Tests.{leb-true, leb-false}
-use Rattle.rules.specs.Edition.{Edition}
+use Rattle.rules.specs.Edition.{Edition, Small}
 use Rattle.rules.specs.Tree.{size, times, link-to}
 use Rattle.rules.specs.Perform.{State, counting}
 use Rattle.rules.specs.Arena.{Slot, first-link, listed, Holds, Chained, slot-of, slot-words, all-words, words, slot-size, place, slot-at, over, WellFormed}
@@ -118,7 +118,7 @@ module _ {K : Type 0} (ed : Edition K) where
   pub place-within : (s n : ℕ) → s < n → place ed s + slot-size ed ≤ place ed n
   place-within s n h = omega (arith, place-next s, mul-le-mul-left (slot-size ed) h)
 
-  module _ (laws : Lawful ed) (w : List ℕ) where
+  module _ (laws : Lawful ed) (w : List ℕ) (small : Small w) where
     -- One word more, at an index written in any way.
     word-then : (i j v : ℕ) (r : List ℕ) → i < length w → j ≡ suc i → getD w i 0 ≡ v → drop j w ≡ r → drop i w ≡ v ∷ r
     word-then i j v r h e p q = drop-cons w i 0 h ∙ (rw (p, ← e, q))
@@ -130,7 +130,7 @@ module _ {K : Type 0} (ed : Edition K) where
         let i : ℕ = place ed s + ed .width in
         let j : ℕ = place ed s + (1 + ed .width) in
         let k : ℕ = place ed s + (2 + ed .width) in
-        laws .respell w (place ed s) (omega arith)
+        laws .respell w small (place ed s) (omega arith)
         ∙ rw append-assoc
         (ap (λ (x : List ℕ). ed .spell (ed .key-at w (place ed s)) ++ x)
         (word-then i j _ _ (omega arith) (omega arith) refl

@@ -8,7 +8,7 @@ use native.Mathlib.Nat.{mul-zero, mul-suc}
 use native.Mathlib.Omega.{arith}
 use lib.ListN.{length, getD, take, drop, length-append, length-drop}
 use lib.Seq.{take-at, drop-at, getD-append-add}
-use Rattle.rules.specs.Edition.{Edition}
+use Rattle.rules.specs.Edition.{Edition, Small}
 use Rattle.rules.specs.Tree.{Tree, none, node, size, times, link-to}
 use Rattle.rules.specs.Perform.{State, counting}
 use Rattle.rules.specs.Arena.{Slot, first-link, link-after, listed, content, held, Holds, free-slot, Chained, or-free, slot-of, slot-words, all-words, words, slot-size, place, slot-at, over, WellFormed}
@@ -178,8 +178,8 @@ module _ {K : Type 0} (ed : Edition K) (laws : Lawful ed) where
   -- "No call writes these words or depends on them": whatever stands behind the last slot, the arena is well formed with the same
   -- state.
   pub any-tail : (a b c : List ℕ) {st : State K} → length a ≡ place ed (st .slots)
-      → WellFormed ed (a ++ b) st → WellFormed ed (a ++ c) st
-  any-tail a b c {st} e f =
+      → Small (a ++ b) → WellFormed ed (a ++ b) st → WellFormed ed (a ++ c) st
+  any-tail a b c {st} e small f =
       subst (λ (w : List ℕ). WellFormed ed w st) kept (over-formed (sound ed f) (a ++ c) (omega (arith, length-append a c)))
     where
       n : ℕ
@@ -188,7 +188,7 @@ module _ {K : Type 0} (ed : Edition K) (laws : Lawful ed) where
       same : a ≡ words ed st
       same =
           sym (take-at a b n e)
-          ∙ ap (take n) (the-words ed laws (a ++ b) f)
+          ∙ ap (take n) (the-words ed laws (a ++ b) small f)
           ∙ take-at (words ed st) (drop n (a ++ b)) n (length-words st)
 
       kept : over ed st (a ++ c) ≡ a ++ c

@@ -6,7 +6,7 @@ use Prim.Native.Nat.{ℕ, zero, suc, _+_, _-_, _*_, _/_, _%_}
 use lib.Dec.{eqb, leb, ltb}
 use lib.ListN.{length, take, drop}
 use Rattle.rules.specs.Order.{choose}
-use Rattle.rules.specs.Edition.{Edition, tags}
+use Rattle.rules.specs.Edition.{Edition}
 use Rattle.rules.specs.Command.{Command, BAD-LINE, Answer, bare, answer-words, command-size, command-at}
 use Rattle.rules.specs.Perform.{State, Outcome, new, gives, perform}
 
@@ -98,6 +98,6 @@ module _ {K : Type 0} (ed : Edition K) where
 abbrev pub program-slots : ℕ
 program-slots = 1024
 
--- What the line program writes for its input.
-abbrev pub program : List ℕ → List ℕ
-program input = output tags program-slots input
+-- What the line program of an edition writes for its input.
+abbrev pub program : {K : Type 0} → Edition K → List ℕ → List ℕ
+program ed input = output ed program-slots input

@@ -14,7 +14,7 @@ use Rattle.rules.specs.Reading.{Reading}
 use Rattle.rules.specs.Calls.{perform-as}
 
 -- A command that leads to a row, or a row: whose command it is, its words, its answer, and every word of the arena after it. Words are
--- written as docs/RULES.md writes them, four words and a comma: `2 1 1 2, 5 50 0 0, 0 0 0 M`.
+-- written as docs/RULES.md writes them, a comma after the header and after each slot: `2 1 1 2, 5 50 0 0, 0 0 0 M`.
 pub data Row : Type 0 where
   before : Reading → String → Row
   row : Reading → String → String → String → Row

@@ -1,4 +1,4 @@
--- "Twelve arenas": the table of docs/RULES.md. The theorem is in proofs/Rows.antt.
+-- "Twelve arenas", and "six of the second edition": the tables of docs/RULES.md. The theorems are in proofs/Rows.antt.
 use mathlib.Core.List.{List, [], _∷_}
 use Rattle.rules.specs.Reading.{as-map}
 use Rattle.rules.specs.Story.{before, row, Story, story}
@@ -33,5 +33,17 @@ twelve =
     ∷ row as-map "1 0 0" "1 0 0 3" "2 1 2 0, 1 0 0 2, 2 0 0 0"
     ∷ row as-map "4 0 0" "1 0 0 2" "2 1 2 0, 1 0 0 2, 2 0 0 0"
     ∷ row as-map "3 M 0" "1 0 0 3" "2 2 2 0, 1 0 0 0, 2 0 1 0"
+    ∷ [])
+    ∷ []
+
+unfoldable pub six : List Story
+six =
+    -- W1 to W6
+    story 2 "2 0 0 1, 0 0 0 2 M, 0 0 0 0 M"
+    (row as-map "5 1 5 50" "2 1 5 0 0" "2 1 1 2, 1 5 50 0 0, 0 0 0 0 M"
+    ∷ row as-map "5 0 5 51" "2 0 5 0 2" "2 2 2 0, 1 5 50 0 0, 0 5 51 0 1"
+    ∷ row as-map "1 1 5 0" "0 1 5 50 4" "2 1 2 0, 1 5 50 2 0, 0 5 51 0 0"
+    ∷ row as-map "6 0 5 0" "4 0 5 51 4" "2 1 1 2, 1 5 50 0 0, 0 0 0 0 M"
+    ∷ row as-map "3 0 M 0" "0 1 5 50 2" "2 1 1 2, 1 5 50 0 0, 0 0 0 0 M"
     ∷ [])
     ∷ []

@@ -1,4 +1,4 @@
--- From the words of an arena whose keys are tags to the memory of its slots: what the calls of the splay read and store.
+-- From the words of an arena to the memory of its slots: what the calls of the splay read and store.
 use mathlib.Core.Bool.{false}
 use mathlib.Core.List.{List}
 use mathlib.Core.Logic.{⊎-elim}
@@ -6,54 +6,59 @@ use mathlib.Core.Path.{_≡_, refl, ap, _∙_, subst}
 use Prim.Native.Nat.{ℕ, zero, suc, _+_, _*_, _≤_, _<_}
 use native.Mathlib.Nat.{eq-zero-or-pos}
 use native.Mathlib.Omega.{arith}
-use lib.ListN.{length, getD, set, length-set}
+use lib.ListN.{length, getD, set}
 use Rattle.rules.specs.Order.{Side, left, right, other, Order, equal, toward, is-toward, by-number}
-use Rattle.rules.specs.Edition.{tags}
+use Rattle.rules.specs.Edition.{edition, Width}
 use Rattle.rules.specs.Tree.{Tree, times, size}
 use Rattle.rules.proofs.Order.{order-from, order-says}
 use Rattle.rules.proofs.Held.{tree-from, tree-from-holds}
 use Rattle.rules.proofs.Pigeons.{few}
-use Rattle.node.specs.Stands.{off, Stands, Kept}
+use Rattle.node.specs.Stands.{off, Stands, Kept, Inside}
 use Rattle.node.proofs.Memory.{Relinked}
-use Rattle.node.proofs.Tags.{slots, key-word, link-word, relinked-at, kept-refl, kept-trans, kept-set}
+use Rattle.node.proofs.Words.{slots, link-word, relinked-at, kept-refl, kept-trans, inside-kept, kept-set}
 use Rattle.splay.specs.Moves.{rotated}
 use Rattle.splay.proofs.Paths.{Hung, alone, joined}
-use Rattle.splay.proofs.Walk.{In-tree, Key-read, Link-read, Rotated}
+use Rattle.splay.proofs.Walk.{In-tree, Link-read, Rotated}
 
--- Readings.
-pub key-read : (w : List ℕ) (x k : ℕ) → k ≡ getD w (4 * x + 0) 0 → Key-read (slots w) x k
-key-read w x k e s p = e ∙ key-word w x s p
+module _ (wd : ℕ) where
+  -- A link's reading.
+  pub link-read : (d : Side) (w : List ℕ) (x y : ℕ) → y ≡ getD w ((3 + wd) * x + off d) 0 → Link-read d (slots wd w) x y
+  link-read d w x y e s p = e ∙ link-word d wd w x s p
 
-pub link-read : (d : Side) (w : List ℕ) (x y : ℕ) → y ≡ getD w (4 * x + off d) 0 → Link-read d (slots w) x y
-link-read d w x y e s p = e ∙ link-word d w x s p
+  -- What hang ensures, as a change of the slots.
+  module _ (d : Side) (w w′ : List ℕ) (top end x r : ℕ) (f : end ≡ 0 → (w′ ≡ w) × (r ≡ x))
+      (g : 0 < end → (w′ ≡ set w ((3 + wd) * end + off d) x) × (r ≡ top)) (b : 0 < end → Inside wd w end) where
+    pub hung-at : Hung d top end x r (slots wd w) (slots wd w′)
+    hung-at = by end refl
+      where
+        by : (n : ℕ) → end ≡ n → Hung d top end x r (slots wd w) (slots wd w′)
+        by zero e = let (ew, er) = f e in alone e (λ i. ap (λ (u : List ℕ). slots wd u i) ew) er
+        by (suc s) e = let (ew, er) = g (omega arith) in joined s e (relinked-at d w x e (b (omega arith)) ew) er
 
--- What hang ensures, as a change of the slots.
-pub hung-at : (d : Side) (w w′ : List ℕ) (top end x r : ℕ) → (end ≡ 0 → (w′ ≡ w) × (r ≡ x)) → (0 < end → (w′ ≡ set w (4 * end + off d) x) × (r ≡ top))
-    → (0 < end → 4 * end + 3 < length w) → Hung d top end x r (slots w) (slots w′)
-hung-at d w w′ top zero x r f g b = let (ew, er) = f refl in alone refl (λ i. ap (λ (u : List ℕ). slots u i) ew) er
-hung-at d w w′ top (suc s) x r f g b =
-    let (ew, er) = g (omega arith) in
-    joined s refl (relinked-at d w x refl (b (omega arith)) ew) er
+    pub hung-kept : Kept w w′
+    hung-kept =
+        ⊎-elim (λ z. rw (f z .0) kept-refl) (λ p. kept-set (off d) x (b p) (g p .0)) (eq-zero-or-pos end)
 
-pub hung-kept : (d : Side) (w w′ : List ℕ) (top end x r : ℕ) → (end ≡ 0 → (w′ ≡ w) × (r ≡ x)) → (0 < end → (w′ ≡ set w (4 * end + off d) x) × (r ≡ top)) → Kept w w′
-hung-kept d w w′ top zero x r f g = rw (f refl .0) kept-refl
-hung-kept d w w′ top (suc s) x r f g = kept-set (off d) x (omega arith) (g (omega arith) .0)
+  -- What rotate ensures.
+  module _ (d : Side) (w w′ : List ℕ) (x up : ℕ) (bx : Inside wd w x) (bu : Inside wd w up) (e : w′ ≡ rotated wd (off d) (off (other d)) w x up) where
+    abbrev half : List ℕ
+    half = set w ((3 + wd) * x + off d) (getD w ((3 + wd) * up + off (other d)) 0)
 
--- What rotate ensures.
-pub rotated-at : (d : Side) (w w′ : List ℕ) (x up : ℕ) → 4 * x + 3 < length w → 4 * up + 3 < length w → w′ ≡ rotated (off d) (off (other d)) w x up
-    → Rotated d x up (slots w) (slots w′)
-rotated-at d w w′ x up bx bu e =
-    let w₁ : List ℕ = set w (4 * x + off d) (getD w (4 * up + off (other d)) 0) in
-    record {
-      between = slots w₁;
-      low = λ s c es ec.
-          subst (λ (v : ℕ). Relinked d s v (slots w) (slots w₁)) (link-word (other d) w up c ec)
-          (relinked-at d w {w′ = w₁} (getD w (4 * up + off (other d)) 0) es bx refl);
-      high = λ s c es ec. relinked-at (other d) w₁ x ec (simp length-set bu) e;
-    }
+    half-kept : Kept w half
+    half-kept = kept-set (off d) _ bx refl
 
-pub rotated-kept : (d : Side) (w w′ : List ℕ) (x up : ℕ) → 0 < x → 0 < up → w′ ≡ rotated (off d) (off (other d)) w x up → Kept w w′
-rotated-kept d w w′ x up px pu e = kept-trans (kept-set (off d) _ px refl) (kept-set (off (other d)) x pu e)
+    pub rotated-at : Rotated d x up (slots wd w) (slots wd w′)
+    rotated-at =
+        record {
+          between = slots wd half;
+          low = λ s c es ec.
+              subst (λ (v : ℕ). Relinked d s v (slots wd w) (slots wd half)) (link-word (other d) wd w up c ec)
+              (relinked-at d w {w′ = half} (getD w ((3 + wd) * up + off (other d)) 0) es bx refl);
+          high = λ s c es ec. relinked-at (other d) half x ec (inside-kept half-kept bu) e;
+        }
+
+    pub rotated-kept : Kept w w′
+    rotated-kept = kept-trans half-kept (kept-set (off (other d)) x (inside-kept half-kept bu) e)
 
 -- Tests on keys, as orders.
 pub right-of : (a b : ℕ) → (a ≡ b → ⊥) → b ≤ a → by-number a b ≡ toward right
@@ -76,18 +81,15 @@ not-right a b h = by (by-number a b) refl
     by (toward right) e = absurd (let q = order-says (toward right) a b e in omega arith)
 
 -- A tree that stands has no more nodes than there are words, and is the one that is read off the words.
-module _ {w : List ℕ} {x : ℕ} {t : Tree ℕ} (h : Stands tags w x t) where
+module _ {wd : ℕ} {w : List ℕ} {x : ℕ} {t : Tree ℕ} (h : Stands (edition wd) w x t) where
   pub stands-few : size t ≤ length w
   stands-few =
       few (length w) t (h .once)
       (λ s q. ⊎-elim (λ z. z) (λ p. absurd (let b = h .inside s p in omega arith)) (eq-zero-or-pos (times s t)))
 
-  pub stands-read : tree-from (length w) (slots w) x ≡ t
-  stands-read = rw (h .at) (tree-from-holds (slots w) (length w) t (h .holds) stands-few)
+  pub stands-read : tree-from (length w) (slots wd w) x ≡ t
+  stands-read = rw (h .at) (tree-from-holds (slots wd w) (length w) t (h .holds) stands-few)
 
-  -- A link into the tree leads to four words that are there.
-  pub in-words : (w′ : List ℕ) (y : ℕ) → Kept w w′ → In-tree t y → 4 * y + 3 < length w′
-  in-words w′ y k i = let b = h .inside (i .slot) (i .one) in omega (arith, k .len, i .is)
-
-pub in-pos : {t : Tree ℕ} {x : ℕ} → In-tree t x → 0 < x
-in-pos i = omega (arith, i .is)
+  -- A link into the tree leads to a slot that is there.
+  pub in-words : Width wd → (w′ : List ℕ) (y : ℕ) → Kept w w′ → In-tree t y → Inside wd w′ y
+  in-words v w′ y k i = let b = h .inside (i .slot) (i .one) in rw (i .is) (omega (arith, k .len))

@@ -3,24 +3,24 @@ use mathlib.Core.List.{List}
 use Prim.Native.Nat.{ℕ, _+_, _*_, _<_}
 use lib.ListN.{getD, set}
 use Rattle.rules.specs.Order.{Side, Order, of-side}
-use Rattle.rules.specs.Edition.{tags}
+use Rattle.rules.specs.Edition.{edition}
 use Rattle.rules.specs.Tree.{Entry, Tree, none, node, fork, times}
 use Rattle.rules.specs.Splay.{Splayed, splay}
 use Rattle.rules.specs.Perform.{hung-on}
 use Rattle.node.specs.Stands.{Stands, Changed}
 
 -- The words after a rotation: up, the child in the word p of x, rises over x, and takes x into its word q.
-abbrev pub rotated : ℕ → ℕ → List ℕ → ℕ → ℕ → List ℕ
-rotated p q w x up = set (set w (4 * x + p) (getD w (4 * up + q) 0)) (4 * up + q) x
+abbrev pub rotated : ℕ → ℕ → ℕ → List ℕ → ℕ → ℕ → List ℕ
+rotated wd p q w x up = set (set w ((3 + wd) * x + p) (getD w ((3 + wd) * up + q) 0)) ((3 + wd) * up + q) x
 
 -- Some tree with a node stands at the link x.
-abbrev pub Somewhere : List ℕ → ℕ → Type 0
-Somewhere w x = (t : Tree ℕ) × Stands tags w x t × (0 < x)
+abbrev pub Somewhere : ℕ → List ℕ → ℕ → Type 0
+Somewhere wd w x = (t : Tree ℕ) × Stands (edition wd) w x t × (0 < x)
 
 -- The tree t′ stands at the link x where t stood, and only slots of t have changed.
-pub record Became (w w′ : List ℕ) (x : ℕ) (t t′ : Tree ℕ) : Type 0 where
-  pub stands : Stands tags w′ x t′
-  pub only : Changed tags (λ s. times s t) w w′
+pub record Became (wd : ℕ) (w w′ : List ℕ) (x : ℕ) (t t′ : Tree ℕ) : Type 0 where
+  pub stands : Stands (edition wd) w′ x t′
+  pub only : Changed (edition wd) (λ s. times s t) w w′
 
 module _ {K : Type 0} where
   -- The child on the side d is rotated up until there is none: the root e, its child on the side d first, then the other.

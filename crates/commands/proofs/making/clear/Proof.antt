@@ -1,11 +1,12 @@
 -- `commands::making::clear` meets its contract: N and the size are read off the header before the new arena takes its place.
 use mathlib.Core.Path.{ap, _∙_, subst}
 use Prim.Native.Nat.{ℕ}
+use native.Mathlib.Omega.{arith}
 use borrow.Author.Needs.{needs}
-use Rattle.rules.specs.Edition.{tags}
+use Rattle.rules.specs.Edition.{edition}
 use Rattle.rules.specs.Perform.{new, perform}
 use Rattle.rules.specs.Arena.{WellFormed, over}
-use Rattle.commands.specs.declared.answer.Answer.{Answer}
+use Rattle.heads.specs.declared.answer.Answer.{Answer}
 use Rattle.commands.proofs.making.clear.Statement.{statement}
 use Rattle.commands.proofs.making.clear.Tie as tie
 
@@ -16,7 +17,9 @@ slice-read-n : tie.Need-slice-read-n
 slice-read-n c = search needs
 
 fresh-requires : tie.Need-fresh-requires
-fresh-requires c κs = search needs
+fresh-requires c κs =
+    let (st, f, v) = c .before .before .before .before .pre in
+    (v, omega (arith, f .slots, f .some-slot), omega (arith, f .slots, f .in-range), rw (f .slots) (f .long))
 
 counted-requires : tie.Need-counted-requires
 counted-requires c κs = search needs
@@ -37,9 +40,10 @@ returns c st f =
             key = ap (λ (a : Answer). a .key) r;
             value = ap (λ (a : Answer). a .value) r ∙ f .size-word;
             count = ap (λ (a : Answer). a .count) r;
+            fits = λ o. omega (arith, ap (λ (a : Answer). a .key) r);
           };
-      words = made .fresh .ensures .0 ∙ ap (λ (n : ℕ). over tags (new n) w) (f .slots);
-      formed = subst (λ (n : ℕ). WellFormed tags (made .fresh .last .0) (new n)) (f .slots) (made .fresh .ensures .1);
+      words = made .fresh .ensures .0 ∙ ap (λ (n : ℕ). over (edition (made .before .before .before .before .before .args .width)) (new n) w) (f .slots);
+      formed = subst (λ (n : ℕ). WellFormed (edition (made .before .before .before .before .before .args .width)) (made .fresh .last .0) (new n)) (f .slots) (made .fresh .ensures .1);
     }
 
 pub clear-spec : {M : Type 1} → statement M

@@ -1,0 +1,2 @@
+-- What the functions of this crate promise of words, trees and chains.
+pub mod Grown

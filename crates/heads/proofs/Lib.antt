@@ -1,0 +1,3 @@
+-- Laws that the proofs of several commands cite.
+pub mod Settle
+pub mod Heads

@@ -1,0 +1,4 @@
+-- Why a lookup does what the rules say.
+pub mod Present
+pub mod Walks
+pub mod Nearest
