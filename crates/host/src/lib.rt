@@ -1,5 +1,6 @@
 // The map's calls under plain names, for a program in C or Rust that links the static library (`rt staticlib host`). A slice is its first
-// word's address and its length in words. What such a caller must keep to nobody checks: the words are there, and the slices do not overlap.
+// word's address and its length in words. What such a caller must keep to nobody checks: the words are there, and the slices do not
+// overlap.
 ghost use mathlib.Core.Path.{_≡_};
 ghost use Rattle.rules.specs.Edition.{tags};
 ghost use Rattle.rules.specs.Reading.{as-map};

@@ -1,2 +1,2 @@
--- What the calls of the map promise, in words.
+-- An answer of the map, in words.
 pub mod Told

@@ -1,0 +1,2 @@
+-- What the calls promise, in words.
+pub mod Told

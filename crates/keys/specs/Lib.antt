@@ -1,0 +1,2 @@
+-- What reading and wording for keys alone promise.
+pub mod Told

@@ -1,5 +1,0 @@
--- Why the calls of the set give what the rules say, and what they say of its members.
-pub mod Called
-pub mod Asked
-pub mod Members
-pub mod Changed
