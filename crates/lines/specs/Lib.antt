@@ -1,3 +1,2 @@
--- What the contracts of this crate say of a line's bytes and words, and of a stream of lines.
+-- What the contracts of this crate say of a line that was read.
 pub mod Read
-pub mod Stream

@@ -1,7 +1,8 @@
 -- `lines::answer_line` meets its contract: the bytes that were written are all of the line.
 -- Assumes nothing.
+use mathlib.Core.Path.{_∙_}
+use Rattle.line.proofs.Put.{nothing-else}
 use borrow.Author.Needs.{needs}
-use Rattle.rules.specs.Lines.{spelled, all-spelled}
 use Rattle.lines.proofs.answer_line.Statement.{statement}
 use Rattle.lines.proofs.answer_line.Tie as tie
 
@@ -12,8 +13,7 @@ write-answer-requires : tie.Need-write-answer-requires
 write-answer-requires c κs = search needs
 
 returns : tie.Need-returns
-unfolding all-spelled spelled
-returns c = search needs
+returns c = c .before .write-answer .ensures ∙ nothing-else {wd = 1} (search needs) _ _ _ _ _ (search needs)
 
 pub answer-line-spec : {M : Type 1} → statement M
 answer-line-spec = tie.close (tie.spec slice-aggregate-write-answer write-answer-requires returns)

@@ -1,0 +1,14 @@
+-- `digits::digit_in` meets its contract: what it reads is an entry of the table.
+-- Assumes nothing.
+use borrow.Author.Needs.{needs}
+use Rattle.digits.proofs.digit_in.Statement.{statement}
+use Rattle.digits.proofs.digit_in.Tie as tie
+
+element-copy-out-result : tie.Need-element-copy-out-result
+element-copy-out-result c = search needs
+
+returns : tie.Need-returns
+returns c = c .before .pre .entry (c .before .args .b) (search needs)
+
+pub digit-in-spec : {M : Type 1} → statement M
+digit-in-spec = tie.close (tie.spec element-copy-out-result returns)

@@ -1,0 +1,2 @@
+-- What the contracts of this crate say of a stream of lines.
+pub mod Stream
