@@ -1,8 +1,9 @@
 //! One arena's worth of commands given to the Rust, each answer judged by a
 //! plain sorted map that follows along, the mirror.
 
-use crate::edition::{take_comparisons, Edition};
+use crate::calls::{take_comparisons, Calls};
 use crate::line::{Answer, Command};
+use crate::shape;
 use crate::splay::node::Node;
 use std::collections::BTreeMap;
 use std::mem;
@@ -17,58 +18,65 @@ pub const COUNT: u32 = 6;
 pub const UNKNOWN: u32 = 7;
 
 /// An answer without its count: code, key, value.
-type Said = (u32, u32, u32);
+type Said = (u32, u64, u32);
 
 /// `code` and the entry, or ABSENT where there is none.
-fn entry(code: u32, entry: Option<(u32, u32)>) -> Said {
+fn entry(code: u32, entry: Option<(u64, u32)>) -> Said {
     entry.map_or((ABSENT, 0, 0), |(key, value)| (code, key, value))
 }
 
 /// NEW, or REPLACED with the old value.
-fn stored(key: u32, old: Option<u32>) -> Said {
+fn stored(key: u64, old: Option<u32>) -> Said {
     old.map_or((NEW, key, 0), |old| (REPLACED, key, old))
 }
 
 /// The Rust's taking consumes the tree, so an arena has two stages.
-enum Stage<E: Edition> {
-    Tree(E),
-    Drain(E::Drain),
+enum Stage<C: Calls> {
+    Tree(C),
+    Drain(C::Drain),
 }
 
 /// Why a command has no answer.
 pub enum Stop {
-    /// The input asks for what the Rust does not offer.
-    Refused(&'static str),
-    /// The Rust and the mirror differ, or the Rust breaks a rule on counts.
+    /// The input asks for what is not offered.
+    Refused(String),
+    /// The Rust and the mirror differ, or the Rust breaks a rule on counts; a
+    /// library's runs differ.
     Disagreement(String),
 }
 
-pub struct Arena<E: Edition> {
-    slots: usize,
-    stage: Stage<E>,
-    mirror: BTreeMap<u32, u32>,
+/// Whatever answers an arena's commands, one after the other.
+pub trait Answers {
+    fn answer(&mut self, command: Command) -> Result<Answer, Stop>;
+    /// Whether the first take has passed.
+    fn is_draining(&self) -> bool;
+    /// The tree's shape, as a sum and as text.
+    fn shape_sum(&self) -> u32;
+    fn shape_text(&self) -> String;
 }
 
-impl<E: Edition> Arena<E> {
-    pub fn new(slots: u32) -> Arena<E> {
-        Arena { slots: slots as usize, stage: Stage::Tree(E::new()), mirror: BTreeMap::new() }
-    }
+pub struct Arena<C: Calls> {
+    slots: usize,
+    stage: Stage<C>,
+    mirror: BTreeMap<u64, u32>,
+}
 
-    pub fn is_draining(&self) -> bool {
-        matches!(self.stage, Stage::Drain(_))
+impl<C: Calls> Arena<C> {
+    pub fn new(slots: u32) -> Arena<C> {
+        Arena { slots: slots as usize, stage: Stage::Tree(C::new()), mirror: BTreeMap::new() }
     }
 
     /// The Rust's root node, or `None` for an empty tree.
-    pub fn root(&self) -> Option<&Node<u32, E::Value>> {
+    fn root(&self) -> Option<&Node<C::Key, C::Value>> {
         match &self.stage {
             Stage::Tree(tree) => tree.root(),
-            Stage::Drain(drain) => E::drain_root(drain),
+            Stage::Drain(drain) => C::drain_root(drain),
         }
     }
 
     /// The Rust's answer and what its comparator counted, once the mirror has
     /// agreed with all of it but the count.
-    pub fn answer(&mut self, command: Command) -> Result<Answer, Stop> {
+    fn judged(&mut self, command: Command) -> Result<Answer, Stop> {
         let size = self.mirror.len();
         take_comparisons();
         let (code, key, value) = self.ask_rust(command)?;
@@ -97,20 +105,20 @@ impl<E: Edition> Arena<E> {
             Stage::Tree(tree) => tree,
             Stage::Drain(drain) => {
                 return match number {
-                    9 => Ok(entry(REMOVED, E::take_first(drain))),
-                    10 => Ok(entry(REMOVED, E::take_last(drain))),
-                    12 => Ok((COUNT, 0, E::remaining(drain) as u32)),
-                    _ => Err(Stop::Refused("after a 9 or 10 only 9, 10 and 12 may follow in the same arena")),
+                    9 => Ok(entry(REMOVED, C::take_first(drain))),
+                    10 => Ok(entry(REMOVED, C::take_last(drain))),
+                    12 => Ok((COUNT, 0, C::remaining(drain) as u32)),
+                    _ => Err(Stop::Refused("after a 9 or 10 only 9, 10 and 12 may follow in the same arena".into())),
                 };
             }
         };
         // The Rust has no FULL, and its min and max give the key alone.
         let full = self.mirror.len() == self.slots && !self.mirror.contains_key(&key);
         let mirror = &self.mirror;
-        let with_value = |key: u32| (key, mirror.get(&key).copied().unwrap_or(0));
+        let with_value = |key: u64| (key, mirror.get(&key).copied().unwrap_or(0));
         Ok(match number {
             1 => entry(FOUND, tree.get(key)),
-            2 if E::WRITES => entry(REPLACED, tree.write(key, value).map(|old| (key, old))),
+            2 if C::WRITES => entry(REPLACED, tree.write(key, value).map(|old| (key, old))),
             3 => entry(FOUND, tree.next(key)),
             4 => entry(FOUND, tree.prev(key)),
             5 if full => match tree.get(key) {
@@ -134,12 +142,12 @@ impl<E: Edition> Arena<E> {
     /// The same command on the mirror, by the live entries of docs/RULES.md.
     fn ask_mirror(&mut self, Command { number, key, value }: Command) -> Said {
         let mirror = &mut self.mirror;
-        let copied = |(key, value): (&u32, &u32)| (*key, *value);
+        let copied = |(key, value): (&u64, &u32)| (*key, *value);
         // The set's entries all have the value 0.
-        let value = if E::WRITES { value } else { 0 };
+        let value = if C::WRITES { value } else { 0 };
         match number {
             1 => entry(FOUND, mirror.get_key_value(&key).map(copied)),
-            2 if E::WRITES => {
+            2 if C::WRITES => {
                 let old = mirror.get_mut(&key).map(|place| (key, mem::replace(place, value)));
                 entry(REPLACED, old)
             }
@@ -162,7 +170,7 @@ impl<E: Edition> Arena<E> {
     }
 
     fn start_draining(&mut self) {
-        let nothing = Stage::Drain(E::new().drain());
+        let nothing = Stage::Drain(C::new().drain());
         self.stage = match mem::replace(&mut self.stage, nothing) {
             Stage::Tree(tree) => Stage::Drain(tree.drain()),
             drain => drain,
@@ -172,7 +180,22 @@ impl<E: Edition> Arena<E> {
     fn rust_len(&self) -> usize {
         match &self.stage {
             Stage::Tree(tree) => tree.len(),
-            Stage::Drain(drain) => E::remaining(drain),
+            Stage::Drain(drain) => C::remaining(drain),
         }
+    }
+}
+
+impl<C: Calls> Answers for Arena<C> {
+    fn answer(&mut self, command: Command) -> Result<Answer, Stop> {
+        self.judged(command)
+    }
+    fn is_draining(&self) -> bool {
+        matches!(self.stage, Stage::Drain(_))
+    }
+    fn shape_sum(&self) -> u32 {
+        shape::sum(&self.root())
+    }
+    fn shape_text(&self) -> String {
+        shape::text(&self.root())
     }
 }

@@ -3,8 +3,10 @@
 //! `README.md` beside this file has the formats.
 
 mod arena;
-mod edition;
+mod calls;
 mod line;
+#[cfg(linked)]
+mod linked;
 mod lists;
 mod plain;
 mod rows;
@@ -12,21 +14,21 @@ mod shape;
 #[allow(dead_code)]
 mod splay;
 
-use arena::{Arena, Stop};
-use edition::{Edition, Map, Set};
-use line::Line;
+use arena::{Answers, Arena, Stop};
+use calls::{Map, Set};
+use line::{digits, Kind, Line, Reading, KINDS};
 use lists::Lists;
-use plain::{Plain, Reading};
+use plain::Asked;
 use std::io::{self, BufRead, BufWriter, Write};
 use std::process::exit;
 
 const USAGE: &str = "usage:
-  oracle answers [--set] [--shapes] [--every K] [--drain-shapes]   answers to the input on stdin
-  oracle plain                                                     the same from the arena in plain words
-  oracle lists map|set                                             the recorded input
-  oracle random SEED COUNT N KEYS                                  a random input
-  oracle rows                                                      the table of rows, from the plain arena
-numbers are decimal; K, N and KEYS are at least 1";
+  oracle answers|plain|linked [--shapes] [--every K] [--drain-shapes]   answers to the input on stdin:
+                               of the Rust, of the arena in plain words, of the C libraries
+  oracle lists KIND                                                     the recorded input
+  oracle random KIND SEED COUNT N KEYS                                  a random input
+  oracle rows                                                           the table of rows, from the plain arena
+KIND is map, set, map64 or set64; numbers are decimal; K, N and KEYS are at least 1";
 
 /// The Rust drops a tree by calls as deep as the tree, and a tree may be as
 /// deep as it has nodes.
@@ -34,7 +36,6 @@ const STACK_BYTES: usize = 256 << 20;
 
 /// How `answers` writes.
 struct Options {
-    set: bool,
     /// The whole shape instead of its sum.
     shapes: bool,
     /// A shape with each so manieth command only.
@@ -78,24 +79,18 @@ fn run() -> Result<(), Failure> {
     let arguments: Vec<&str> = arguments.iter().map(String::as_str).collect();
     let mut out = BufWriter::new(io::stdout().lock());
     match arguments[..] {
-        ["answers", ref rest @ ..] => {
-            let options = read_options(rest)?;
-            if options.set {
-                answers::<Set>(&options, &mut out)?
-            } else {
-                answers::<Map>(&options, &mut out)?
-            }
-        }
-        ["plain"] => plain(&mut out)?,
-        ["lists", "map"] => Lists::new(&mut out).map()?,
-        ["lists", "set"] => Lists::new(&mut out).set()?,
+        ["answers", ref rest @ ..] => answers(judge, &read_options(rest)?, &mut out)?,
+        ["plain", ref rest @ ..] => answers(plain, &read_options(rest)?, &mut out)?,
+        #[cfg(linked)]
+        ["linked", ref rest @ ..] => answers(linked::new, &read_options(rest)?, &mut out)?,
+        ["lists", name] => Lists::new(&mut out, kind(name)?).recorded()?,
         ["rows"] => rows::write(&mut out)?,
-        ["random", seed, count, slots, keys] => {
+        ["random", name, seed, count, slots, keys] => {
             let seed = number(seed, 0, u64::MAX)?;
             let count = number(count, 0, u64::MAX)?;
             let slots = number(slots, 1, 1 << 24)? as u32;
             let keys = number(keys, 1, u32::MAX.into())? as u32;
-            Lists::new(&mut out).random(seed, count, slots, keys)?
+            Lists::new(&mut out, kind(name)?).random(seed, count, slots, keys)?
         }
         _ => return Err(Failure::Caller(USAGE.into())),
     }
@@ -103,14 +98,10 @@ fn run() -> Result<(), Failure> {
 }
 
 fn read_options(mut rest: &[&str]) -> Result<Options, Failure> {
-    let mut options = Options { set: false, shapes: false, every: 1, drain_shapes: false };
+    let mut options = Options { shapes: false, every: 1, drain_shapes: false };
     loop {
         rest = match *rest {
             [] => return Ok(options),
-            ["--set", ref rest @ ..] => {
-                options.set = true;
-                rest
-            }
             ["--shapes", ref rest @ ..] => {
                 options.shapes = true;
                 rest
@@ -135,67 +126,63 @@ fn number(text: &str, least: u64, most: u64) -> Result<u64, Failure> {
     }
 }
 
+fn kind(name: &str) -> Result<Kind, Failure> {
+    let found = KINDS.into_iter().find(|kind| kind.name() == name);
+    found.ok_or_else(|| Failure::Caller(format!("{name}: no kind of arena\n{USAGE}")))
+}
+
+/// The crate's own tree as a judge.
+fn judge(kind: Kind, slots: u32) -> Result<Box<dyn Answers>, Stop> {
+    Ok(match (kind.reading, kind.width) {
+        (Reading::Map, 1) => Box::new(Arena::<Map<u32>>::new(slots)),
+        (Reading::Set, 1) => Box::new(Arena::<Set<u32>>::new(slots)),
+        (Reading::Map, _) => Box::new(Arena::<Map<u64>>::new(slots)),
+        (Reading::Set, _) => Box::new(Arena::<Set<u64>>::new(slots)),
+    })
+}
+
+fn plain(kind: Kind, slots: u32) -> Result<Box<dyn Answers>, Stop> {
+    Ok(Box::new(Asked::new(kind, slots)))
+}
+
 /// Writes a line for every command of the input, up to the first line that
 /// can't be answered.
-fn answers<E: Edition>(options: &Options, out: &mut impl Write) -> Result<(), Failure> {
-    let mut arena: Option<Arena<E>> = None;
+fn answers(
+    new: fn(Kind, u32) -> Result<Box<dyn Answers>, Stop>,
+    options: &Options,
+    out: &mut impl Write,
+) -> Result<(), Failure> {
+    let mut arena: Option<(usize, Box<dyn Answers>)> = None;
     let mut commands = 0;
     for (index, bytes) in io::stdin().lock().split(b'\n').enumerate() {
-        let refused = |why: &str| Err(Failure::Caller(format!("line {}: {why}", index + 1)));
-        let command = match line::read(&bytes?) {
-            None | Some(Line::NewSet(_)) => return refused("neither n and 8 nor 24 lower-case hexadecimal digits"),
-            Some(Line::New(0)) => return refused("an arena has at least one slot"),
-            Some(Line::New(slots)) => {
-                arena = Some(Arena::new(slots));
+        let stopped = |stop: Stop| match stop {
+            Stop::Refused(why) => Failure::Caller(format!("line {}: {why}", index + 1)),
+            Stop::Disagreement(what) => Failure::Here(format!("line {}: {what}", index + 1)),
+        };
+        let refused = |why: &str| Err(stopped(Stop::Refused(why.into())));
+        let (width, command) = match line::read(&bytes?) {
+            None => return refused("neither n, s, N or S and 8 nor 24 or 32 lower-case hexadecimal digits"),
+            Some(Line::New(_, 0)) => return refused("an arena has at least one slot"),
+            Some(Line::New(kind, slots)) => {
+                arena = Some((kind.width, new(kind, slots).map_err(stopped)?));
                 continue;
             }
-            Some(Line::Command(command)) => command,
+            Some(Line::Command(width, command)) => (width, command),
         };
-        let Some(arena) = &mut arena else { return refused("a command before the first arena") };
+        let arena = match &mut arena {
+            None => return refused("a command before the first arena"),
+            Some((its, _)) if *its != width => return refused("a command of the other edition"),
+            Some((_, arena)) => arena,
+        };
         commands += 1;
-        let answer = match arena.answer(command) {
-            Ok(answer) => answer,
-            Err(Stop::Refused(why)) => return refused(why),
-            Err(Stop::Disagreement(what)) => {
-                return Err(Failure::Here(format!("line {}: command {commands}, {command}: {what}", index + 1)));
-            }
-        };
+        let answer = arena.answer(command).map_err(stopped)?;
         let shown = commands % options.every == 0 && (options.drain_shapes || !arena.is_draining());
         let shape = match (shown, options.shapes) {
             (false, _) => "--------".to_string(),
-            (true, false) => format!("{:08x}", shape::sum(arena.root())),
-            (true, true) => shape::text(arena.root()),
+            (true, false) => format!("{:08x}", arena.shape_sum()),
+            (true, true) => arena.shape_text(),
         };
-        writeln!(out, "{answer} {shape}")?;
-    }
-    Ok(())
-}
-
-/// Writes what the plain arena answers, as `answers` writes it: a line for
-/// every command, with no shape from an arena's first take on. In the input
-/// `s` begins the set's arenas.
-fn plain(out: &mut impl Write) -> Result<(), Failure> {
-    let mut arena: Option<(Reading, Plain)> = None;
-    let mut taken = false;
-    for (index, bytes) in io::stdin().lock().split(b'\n').enumerate() {
-        let refused = |why: &str| Err(Failure::Caller(format!("line {}: {why}", index + 1)));
-        let (reading, slots) = match line::read(&bytes?) {
-            None => return refused("neither n or s and 8 nor 24 lower-case hexadecimal digits"),
-            Some(Line::New(slots)) => (Reading::Map, slots),
-            Some(Line::NewSet(slots)) => (Reading::Set, slots),
-            Some(Line::Command(command)) => {
-                let Some((reading, arena)) = &mut arena else { return refused("a command before the first arena") };
-                for word in arena.ask(*reading, &[command.number, command.key, command.value]) {
-                    write!(out, "{word:08x}")?;
-                }
-                taken |= matches!(command.number, 9 | 10);
-                let shape = if taken { "--------".to_string() } else { format!("{:08x}", arena.shape_sum()) };
-                writeln!(out, " {shape}")?;
-                continue;
-            }
-        };
-        arena = Some((reading, Plain::new(1, slots)));
-        taken = false;
+        writeln!(out, "{} {shape}", digits(&answer.words(width)))?;
     }
     Ok(())
 }

@@ -4,26 +4,20 @@
 //! commands. It is made to be read beside that page and not to be fast;
 //! `record` holds it to the Rust's recorded answers.
 
-use crate::arena::{ABSENT, COUNT, FOUND, FULL, NEW, REMOVED, REPLACED, UNKNOWN};
+use crate::arena::{Answers, Stop, ABSENT, COUNT, FOUND, FULL, NEW, REMOVED, REPLACED, UNKNOWN};
+use crate::line::{key_of, spell, Answer, Command, Kind, Reading};
 use crate::shape;
 use std::cmp::Ordering::{self, Equal, Greater, Less};
 
 /// The header's words.
-const SLOTS: usize = 0;
-const ROOT: usize = 1;
-const SIZE: usize = 2;
-const FREE: usize = 3;
-
-/// How a command is read and its answer worded: as the map's or as the set's.
-#[derive(Clone, Copy, PartialEq)]
-pub enum Reading {
-    Map,
-    Set,
-}
+pub const SLOTS: usize = 0;
+pub const ROOT: usize = 1;
+pub const SIZE: usize = 2;
+pub const FREE: usize = 3;
 
 /// "The mirror image" of a rule is the same rule at the other side.
 #[derive(Clone, Copy, PartialEq)]
-enum Side {
+pub enum Side {
     Left,
     Right,
 }
@@ -54,10 +48,10 @@ const NO_ENTRY: Said = (ABSENT, 0, 0);
 
 pub struct Plain {
     /// How many words a key takes, the high one first.
-    width: usize,
+    pub width: usize,
     pub words: Vec<u32>,
     /// The comparisons of the command at hand.
-    count: u32,
+    pub count: u32,
 }
 
 impl Plain {
@@ -72,22 +66,21 @@ impl Plain {
         arena
     }
 
-    /// One command's words, "number, key, value", as the map or the set reads
-    /// them; gives the answer's, "code, key, value, comparisons". The set
+    /// One command, "number, key, value", as the map or the set reads it;
+    /// gives the answer, "code, key, value, comparisons". The set
     /// "takes the same commands but 2, which is UNKNOWN there", "its inserts
     /// store value 0", and it "gives 0 for every entry's value, old values
     /// too; COUNT and refusals are as the map's".
-    pub fn ask(&mut self, reading: Reading, command: &[u32]) -> Vec<u32> {
+    pub fn ask(&mut self, reading: Reading, Command { number, key, value }: Command) -> Answer {
         let set = reading == Reading::Set;
-        let key = self.key_in(command, 1);
-        let value = if set { 0 } else { command[1 + self.width] };
+        let value = if set { 0 } else { value };
         self.count = 0;
-        let (code, key, value) = match command[0] {
+        let (code, key, value) = match number {
             2 if set => (UNKNOWN, 0, 0),
-            number => self.perform(number, key, value),
+            _ => self.perform(number, key, value),
         };
         let value = if set && code != COUNT { 0 } else { value };
-        [&[code], &self.spell(key)[..], &[value, self.count]].concat()
+        Answer { code, key, value, comparisons: self.count }
     }
 
     fn perform(&mut self, number: u32, key: u64, value: u32) -> Said {
@@ -304,7 +297,7 @@ impl Plain {
 
     /// A slot's words: key, value, left link, right link.
     fn fill(&mut self, slot: Link, key: u64, rest: [u32; 3]) {
-        let (place, key) = (self.place(slot), self.spell(key));
+        let (place, key) = (self.place(slot), spell(self.width, key));
         self.words[place..place + self.width].copy_from_slice(&key);
         self.words[place + self.width..][..3].copy_from_slice(&rest);
     }
@@ -314,7 +307,7 @@ impl Plain {
         4 + (3 + self.width) * (slot as usize - 1)
     }
 
-    fn child(&self, slot: Link, side: Side) -> Link {
+    pub fn child(&self, slot: Link, side: Side) -> Link {
         self.words[self.place(slot) + self.width + 1 + side as usize]
     }
 
@@ -323,16 +316,8 @@ impl Plain {
         self.words[place] = child;
     }
 
-    fn key(&self, slot: Link) -> u64 {
-        self.key_in(&self.words, self.place(slot))
-    }
-
-    fn key_in(&self, words: &[u32], place: usize) -> u64 {
-        words[place..][..self.width].iter().fold(0, |key, word| key << 32 | u64::from(*word))
-    }
-
-    fn spell(&self, key: u64) -> Vec<u32> {
-        (0..self.width).rev().map(|word| (key >> (32 * word)) as u32).collect()
+    pub fn key(&self, slot: Link) -> u64 {
+        key_of(&self.words[self.place(slot)..][..self.width])
     }
 
     /// "Each comparison counts one."
@@ -342,26 +327,43 @@ impl Plain {
     }
 
     /// A code with the slot's entry; ABSENT for no slot.
-    fn entry(&self, code: u32, slot: Link) -> Said {
+    pub fn entry(&self, code: u32, slot: Link) -> Said {
         if slot == 0 {
             return NO_ENTRY;
         }
         (code, self.key(slot), self.words[self.place(slot) + self.width])
     }
+}
 
-    /// The sum of the tree's shape, where a key is one word.
-    pub fn shape_sum(&self) -> u32 {
-        let key_of = |slot: Link| if slot == 0 { None } else { Some(self.key(slot) as u32) };
-        let mut sum = 0;
-        let mut waiting = vec![self.words[ROOT]];
-        while let Some(slot) = waiting.pop() {
-            if slot != 0 {
-                let (_, key, value) = self.entry(FOUND, slot);
-                let (left, right) = (self.child(slot, Left), self.child(slot, Right));
-                sum = shape::with_node(sum, key as u32, value, key_of(left), key_of(right));
-                waiting.extend([left, right]);
-            }
-        }
-        sum
+/// A plain arena of one kind, as the input has it.
+pub struct Asked {
+    kind: Kind,
+    arena: Plain,
+    taken: bool,
+}
+
+impl Asked {
+    pub fn new(kind: Kind, slots: u32) -> Asked {
+        Asked { kind, arena: Plain::new(kind.width, slots), taken: false }
+    }
+
+    fn tree(&self) -> shape::Words<'_> {
+        shape::Words { width: self.kind.width, words: &self.arena.words }
+    }
+}
+
+impl Answers for Asked {
+    fn answer(&mut self, command: Command) -> Result<Answer, Stop> {
+        self.taken |= matches!(command.number, 9 | 10);
+        Ok(self.arena.ask(self.kind.reading, command))
+    }
+    fn is_draining(&self) -> bool {
+        self.taken
+    }
+    fn shape_sum(&self) -> u32 {
+        shape::sum(&self.tree())
+    }
+    fn shape_text(&self) -> String {
+        shape::text(&self.tree())
     }
 }

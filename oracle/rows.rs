@@ -4,93 +4,114 @@
 //! that a rule which is wrong on one side only, or in one command of the set
 //! only, shows. The same call always writes the same bytes.
 
+use crate::line::{Command, Reading};
 use crate::lists::Random;
-use crate::plain::{Plain, Reading};
+use crate::plain::Plain;
 use std::io::{self, Write};
 use Reading::{Map, Set};
 
 /// Number, key, value.
-type Command = [u32; 3];
+type Asked = [u64; 3];
 
-const M: u32 = u32::MAX;
+const M: u64 = u32::MAX as u64;
 
 struct Story {
     what: String,
+    /// How many words a key takes.
+    width: usize,
     slots: u32,
     /// Inserts of the map that lead to the first row.
-    before: Vec<Command>,
-    commands: Vec<(Reading, Command)>,
+    before: Vec<Asked>,
+    commands: Vec<(Reading, Asked)>,
 }
 
 impl Story {
     fn new(what: &str, slots: u32) -> Story {
-        Story { what: what.to_string(), slots, before: Vec::new(), commands: Vec::new() }
+        Story { what: what.to_string(), width: 1, slots, before: Vec::new(), commands: Vec::new() }
     }
 
-    fn after(mut self, keys: &[u32]) -> Story {
+    fn wide(what: &str, slots: u32) -> Story {
+        Story { width: 2, ..Story::new(what, slots) }
+    }
+
+    fn after(mut self, keys: &[u64]) -> Story {
         self.before = inserts(keys);
         self
     }
 
-    fn then(mut self, reading: Reading, commands: &[Command]) -> Story {
+    fn then(mut self, reading: Reading, commands: &[Asked]) -> Story {
         self.commands.extend(commands.iter().map(|command| (reading, *command)));
         self
     }
 
-    fn inserts(self, reading: Reading, keys: &[u32]) -> Story {
+    fn inserts(self, reading: Reading, keys: &[u64]) -> Story {
         self.then(reading, &inserts(keys))
     }
 
-    /// The same seen from the other end of the order: the key k becomes M-k,
-    /// and next, min and take first change places with prev, max and take
-    /// last.
+    /// The same seen from the other end of the order: the key k becomes the
+    /// largest key minus k, and next, min and take first change places with
+    /// prev, max and take last.
     fn mirror(&self) -> Story {
-        let turned = |[number, key, value]: Command| {
+        let last = if self.width == 1 { M } else { u64::MAX };
+        let turned = |[number, key, value]: Asked| {
             let number = match number {
                 3 | 7 | 9 => number + 1,
                 4 | 8 | 10 => number - 1,
                 _ => number,
             };
-            [number, M - key, value]
+            [number, last - key, value]
         };
         Story {
             what: format!("{}, from the other end", self.what),
-            slots: self.slots,
             before: self.before.iter().map(|command| turned(*command)).collect(),
             commands: self.commands.iter().map(|(reading, command)| (*reading, turned(*command))).collect(),
+            ..*self
         }
     }
 
     /// The story in the table's form. `joint` stands before it.
     fn write(&self, joint: &str, out: &mut impl Write) -> io::Result<()> {
-        let mut arena = Plain::new(1, self.slots);
+        let mut arena = Plain::new(self.width, self.slots);
         writeln!(out, "    -- {}", self.what)?;
-        writeln!(out, "    {joint}story {} \"{}\"", self.slots, arena_text(&arena.words))?;
+        writeln!(out, "    {joint}story {} \"{}\"", self.slots, self.arena_text(&arena))?;
         let mut joint = "(";
-        for command in &self.before {
+        for command in self.before.iter().map(read) {
             arena.ask(Map, command);
-            writeln!(out, "    {joint}before as-map \"{}\"", text(command))?;
+            writeln!(out, "    {joint}before as-map \"{}\"", text(&command.words(self.width)))?;
             joint = "∷ ";
         }
         for (reading, command) in &self.commands {
             let reader = if *reading == Map { "as-map" } else { "as-set" };
-            let answer = arena.ask(*reading, command);
-            let (command, answer, words) = (text(command), text(&answer), arena_text(&arena.words));
+            let command = read(command);
+            let answer = text(&arena.ask(*reading, command).words(self.width));
+            let (command, words) = (text(&command.words(self.width)), self.arena_text(&arena));
             writeln!(out, "    {joint}row {reader} \"{command}\" \"{answer}\" \"{words}\"")?;
             joint = "∷ ";
         }
         writeln!(out, "    ∷ [])")
     }
+
+    /// The header and each slot, with a comma between them.
+    fn arena_text(&self, arena: &Plain) -> String {
+        let (header, slots) = arena.words.split_at(4);
+        let parts = std::iter::once(header).chain(slots.chunks(3 + self.width));
+        parts.map(text).collect::<Vec<String>>().join(", ")
+    }
 }
 
-/// Inserts of keys in this order, each with ten times itself as value.
-fn inserts(keys: &[u32]) -> Vec<Command> {
-    keys.iter().map(|key| [5, *key, 10 * key]).collect()
+fn read([number, key, value]: &Asked) -> Command {
+    Command { number: *number as u32, key: *key, value: *value as u32 }
+}
+
+/// Inserts of keys in this order, each with ten times itself as value: ten
+/// times the sum of its words, of which the low half is taken.
+fn inserts(keys: &[u64]) -> Vec<Asked> {
+    keys.iter().map(|key| [5, *key, 10 * ((key >> 32) + (key & M)) & 0xffff]).collect()
 }
 
 /// Words with a space between them. A word just below M is told from there.
 fn text(words: &[u32]) -> String {
-    let word = |word: &u32| match M - word {
+    let word = |word: &u32| match u32::MAX - word {
         0 => "M".to_string(),
         below @ 1..=9999 => format!("M-{below}"),
         _ => word.to_string(),
@@ -98,31 +119,28 @@ fn text(words: &[u32]) -> String {
     words.iter().map(word).collect::<Vec<String>>().join(" ")
 }
 
-/// The header and each slot, with a comma between them.
-fn arena_text(words: &[u32]) -> String {
-    words.chunks(4).map(text).collect::<Vec<String>>().join(", ")
-}
-
 /// Writes the whole file.
 pub fn write(out: &mut impl Write) -> io::Result<()> {
     write!(out, "{HEAD}")?;
-    let mut joint = "";
-    for story in stories() {
-        story.write(joint, out)?;
-        joint = "∷ ";
+    for (name, stories) in [("rows", stories()), ("wide-rows", wide_stories())] {
+        write!(out, "\nunfoldable pub {name} : List Story\n{name} =\n")?;
+        let mut joint = "";
+        for story in stories {
+            story.write(joint, out)?;
+            joint = "∷ ";
+        }
+        writeln!(out, "    ∷ []")?;
     }
-    writeln!(out, "    ∷ []")
+    Ok(())
 }
 
 const HEAD: &str = "\
 -- Rows from a second source: an arena in plain Rust, written from the rules in words (`oracle/plain.rs`) and held to the answers of the
--- crate itself. `oracle/record` makes this file; nothing in it is written by hand. The theorem is in proofs/Rows.antt.
+-- crate itself. `oracle/record` makes this file; nothing in it is written by hand. `rows` has keys of one word, `wide-rows` keys of two.
+-- The theorems are in proofs/Rows.antt.
 use mathlib.Core.List.{List, [], _∷_}
 use Rattle.rules.specs.Reading.{as-map, as-set}
 use Rattle.rules.specs.Story.{before, row, Story, story}
-
-unfoldable pub rows : List Story
-rows =
 ";
 
 fn stories() -> Vec<Story> {
@@ -251,8 +269,13 @@ fn told_once() -> Vec<Story> {
 }
 
 /// Every command, inserts the most frequent; keys for about twice the slots.
-fn random_command(random: &mut Random, slots: u32) -> Command {
-    let number = match random.below(32) {
+fn random_command(random: &mut Random, slots: u32) -> Asked {
+    let number = random_number(random);
+    [number, random.below(2 * slots + 1).into(), random.below(100).into()]
+}
+
+fn random_number(random: &mut Random) -> u64 {
+    match random.below(32) {
         0..=2 => 1,
         3..=5 => 2,
         6..=7 => 3,
@@ -265,6 +288,78 @@ fn random_command(random: &mut Random, slots: u32) -> Command {
         28..=29 => 10,
         30 => 12,
         _ => [0, 11, 13][random.below(3) as usize],
-    };
-    [number, random.below(2 * slots + 1), random.below(100)]
+    }
+}
+
+/// The key of two words.
+fn key(high: u64, low: u64) -> u64 {
+    high << 32 | low
+}
+
+/// Stories of the second edition. How the tree is splayed, the chain kept and
+/// the set read does not hang on the width, so these look at the keys' words.
+fn wide_stories() -> Vec<Story> {
+    let mut all = vec![];
+    for story in wide_told_both_ways() {
+        let mirror = story.mirror();
+        all.extend([story, mirror]);
+    }
+    let mut random = Random(6);
+    for slots in [1, 2, 4, 5] {
+        let mut story = Story::wide("Random commands of the map and of the set, keys at the ends of both words", slots);
+        for _ in 0..12 + 2 * slots {
+            let number = random_number(&mut random);
+            let mut word = || [0, 1, M - 1, M][random.below(4) as usize];
+            let key = key(word(), word());
+            let value = random.below(100).into();
+            story = story.then([Map, Map, Set][random.below(3) as usize], &[[number, key, value]]);
+        }
+        all.push(story);
+    }
+    all
+}
+
+fn wide_told_both_ways() -> Vec<Story> {
+    // Keys of which the low word falls as the high one rises.
+    let at = |high: u64| key(high, M - high);
+    // P1 to P12, and the set, on such keys.
+    let mut all: Vec<Story> = twelve().into_iter().map(|story| in_two_words(story, at)).collect();
+    all.extend([
+        Story::wide("Keys that differ in the high word alone: every command, and full", 3)
+            .inserts(Map, &[key(2, 7), key(1, 7), key(3, 7), key(0, 7)])
+            .then(Map, &[[1, key(1, 7), 0], [1, key(0, 7), 0], [2, key(3, 7), 31], [2, key(4, 7), 1]])
+            .then(Map, &[[3, key(1, 7), 0], [4, key(3, 7), 0], [3, key(3, 7), 0], [4, key(1, 7), 0], [3, key(2, 6), 0]])
+            .then(Map, &[[7, 0, 0], [8, 0, 0], [12, 0, 0], [6, key(2, 7), 0], [6, key(2, 7), 0], [9, 0, 0], [10, 0, 0]])
+            .inserts(Map, &[key(M, 7), key(0, 7)])
+            .then(Map, &[[13, key(M, 7), 1], [11, 0, 0]]),
+        Story::wide("Keys that differ in the low word alone: every command, and full", 3)
+            .inserts(Map, &[key(7, 2), key(7, 1), key(7, 3), key(7, 0)])
+            .then(Map, &[[1, key(7, 1), 0], [1, key(7, 0), 0], [2, key(7, 3), 31], [2, key(7, 4), 1]])
+            .then(Map, &[[3, key(7, 1), 0], [4, key(7, 3), 0], [3, key(7, 3), 0], [4, key(7, 1), 0], [3, key(6, 2), 0]])
+            .then(Map, &[[7, 0, 0], [8, 0, 0], [12, 0, 0], [6, key(7, 2), 0], [6, key(7, 2), 0], [9, 0, 0], [10, 0, 0]])
+            .inserts(Map, &[key(7, M), key(7, 0)])
+            .then(Map, &[[0, key(7, M), 1], [11, 0, 0]]),
+        Story::wide("Ends of both words", 6)
+            .inserts(Map, &[0, M, M + 1, u64::MAX, key(M, 0)])
+            .then(Map, &[[1, 0, 0], [1, M, 0], [1, M + 1, 0], [1, key(M, 0), 0], [1, u64::MAX, 0], [1, key(1, M), 0]])
+            .then(Map, &[[3, 0, 0], [3, M, 0], [3, M + 1, 0], [3, u64::MAX, 0], [4, M + 1, 0], [4, key(M, 0), 0], [4, 0, 0]])
+            .then(Map, &[[6, M, 0], [10, 0, 0], [9, 0, 0], [8, 0, 0]]),
+        Story::wide("A path of five nodes whose low words are in another order", 5)
+            .after(&[key(1, 5), key(2, 1), key(3, 4), key(4, 0), key(5, 3)])
+            .then(Map, &[[1, key(1, 5), 0], [1, key(4, 5), 0], [3, key(2, 0), 0], [4, key(2, 2), 0], [5, key(2, 2), 9]])
+            .then(Map, &[[6, key(3, 4), 0], [5, key(2, 2), 9], [10, 0, 0], [9, 0, 0], [9, 0, 0], [9, 0, 0], [9, 0, 0]]),
+        Story::wide("The set's commands, on entries of its own and of a map", 3)
+            .then(Set, &[[5, at(4), 40], [5, at(2), 20], [2, at(4), 1], [1, at(4), 1], [5, at(4), 41], [3, at(2), 0]])
+            .then(Map, &[[5, at(6), 60], [2, at(2), 22]])
+            .then(Set, &[[4, at(6), 0], [1, at(2), 0], [1, at(6), 0], [7, 3, 3], [8, 3, 3], [12, 3, 3], [5, at(5), 5]])
+            .then(Set, &[[6, at(6), 0], [9, 0, 0], [10, 0, 0], [M, at(2), 4], [11, 3, 3]]),
+    ]);
+    all
+}
+
+/// The same story with a key of two words for each key of one.
+fn in_two_words(story: Story, wide: impl Fn(u64) -> u64) -> Story {
+    let turned = |(reading, [number, key, value]): (Reading, Asked)| (reading, [number, wide(key), value]);
+    let what = format!("{}, with k and M-k for a key k", story.what);
+    Story { what, width: 2, commands: story.commands.into_iter().map(turned).collect(), ..story }
 }

@@ -1,11 +1,11 @@
-// Replays the recorded lists. Standard input holds makings and commands in the format of oracle/README.md, each line with its newline; a
-// making that begins with s and not n starts an arena of the set. They are done by the public calls of the map or of the set, in one arena,
-// and each command's answer goes to standard output as the oracle writes it, with the sum of the tree's shape; so what is written has to
-// be, byte for byte, what the Rust answered.
+// Replays the recorded lists. Standard input holds makings and commands in the format of oracle/README.md, each line with its newline: n
+// begins an arena of the map and s one of the set, N and S the same with keys of two words. They are done by the public calls of the map
+// and of the set of that edition, in one arena, and each command's answer goes to standard output as the oracle writes it, with the sum of
+// the tree's shape; so what is written has to be, byte for byte, what the Rust answered.
 mod shape;
 mod text;
 
-use commands::Answer;
+use map64::Answer;
 use shape::shape_sum;
 use text::dashes;
 use text::spell;
@@ -13,14 +13,14 @@ use text::word_at;
 ghost use Prim.Native.Nat.{_+_, _≤_};
 ghost use lib.ListN.{length};
 
-// The bytes of an output line: 32 digits, a space, the shape's 8, a newline.
-const WIDTH: usize = 42;
+// The most bytes of an output line: 40 digits, a space, the shape's 8, a newline.
+const WIDTH: usize = 50;
 
-// What is kept from byte to byte: how much of the present line was read, whether this arena is a set, whether its first take has passed,
-// how many bytes of output wait, and whether there may be more input.
+// What is kept from byte to byte: how much of the present line was read, the kind of this arena, whether its first take has passed, how
+// many bytes of output wait, and whether there may be more input.
 struct Kept {
     len: usize,
-    set: bool,
+    kind: u32,
     taking: bool,
     used: usize,
     more: bool,
@@ -44,7 +44,7 @@ fn flush(out: &[u8; 65536], used: usize)
 // where the line goes.
 fn room(out: &[u8; 65536], used: usize) -> usize
     requires { ⌜ used ≤ 65536 ⌝ }
-    ensures { λ r. ⌜ r + 42 ≤ 65536 ⌝ }
+    ensures { λ r. ⌜ r + 50 ≤ 65536 ⌝ }
 {
     if used + WIDTH <= 65536 {
         return used;
@@ -53,73 +53,135 @@ fn room(out: &[u8; 65536], used: usize) -> usize
     0
 }
 
-// Puts the line of an answer into the buffer. A tree in the middle of a drain has no shape in the recorded list.
-fn put(out: &mut [u8; 65536], at: usize, r: Answer, taking: bool, sum: u32)
-    requires { ⌜ at + 42 ≤ 65536 ⌝ }
-{
-    spell(out, at, r.code);
-    spell(out, at + 8, r.key);
-    spell(out, at + 16, r.value);
-    spell(out, at + 24, r.count);
-    out[at + 32] = b' ';
-    if taking {
-        dashes(out, at + 33);
-    } else {
-        spell(out, at + 33, sum);
+// The kind of arena that a byte begins: a map or a set with keys of one word, 0 or 1, or of two words, 2 or 3; 4 where it begins none.
+fn kind_of(b: u8) -> u32 {
+    match b {
+        b'n' => 0,
+        b's' => 1,
+        b'N' => 2,
+        b'S' => 3,
+        _ => 4,
     }
-    out[at + 41] = b'\n';
 }
 
-// Does a command as the arena's kind has it.
-fn command(a: &mut [u32; 16384], set: bool, number: u32, key: u32, value: u32) -> Answer {
-    if set {
-        return set::one(a, number, key, value);
+// The digits of a key.
+fn digits_of(wide: bool) -> usize
+    ensures { λ r. ⌜ r ≤ 16 ⌝ }
+{
+    if wide { 16 } else { 8 }
+}
+
+// Puts the line of an answer, with so many digits of its key, into the buffer, and says where it ends. A tree in the middle of a drain has
+// no shape in the recorded list.
+fn put(out: &mut [u8; 65536], at: usize, r: Answer, digits: usize, taking: bool, sum: u32) -> usize
+    requires { ⌜ (at + 50 ≤ 65536) × (digits ≤ 16) ⌝ }
+    ensures { λ r. ⌜ r ≤ 65536 ⌝ }
+{
+    spell(out, at, 8, r.code as u64);
+    spell(out, at + 8, digits, r.key);
+    let rest = at + 8 + digits;
+    spell(out, rest, 8, r.value as u64);
+    spell(out, rest + 8, 8, r.count as u64);
+    out[rest + 16] = b' ';
+    if taking {
+        dashes(out, rest + 17);
+    } else {
+        spell(out, rest + 17, 8, sum as u64);
     }
-    map::one(a, number, key, value)
+    out[rest + 25] = b'\n';
+    rest + 26
+}
+
+// An answer with a key of one word, as one with a key of two.
+fn widened(r: map::Answer) -> Answer {
+    Answer {
+        code: r.code,
+        key: r.key as u64,
+        value: r.value,
+        count: r.count,
+    }
+}
+
+// Does the line's command, with a key of one word.
+fn command(a: &mut [u32; 20480], line: &[u8; 32], set: bool) -> Answer {
+    let number = word_at(line, 0);
+    let key = word_at(line, 8);
+    let value = word_at(line, 16);
+    if set {
+        return widened(set::one(a, number, key, value));
+    }
+    widened(map::one(a, number, key, value))
+}
+
+// Does the line's command, with a key of two words.
+fn command64(a: &mut [u32; 20480], line: &[u8; 32], set: bool) -> Answer {
+    let number = word_at(line, 0);
+    let key = (word_at(line, 8) as u64) * 4294967296 + word_at(line, 16) as u64;
+    let value = word_at(line, 24);
+    if set {
+        return set64::one(a, number, key, value);
+    }
+    map64::one(a, number, key, value)
 }
 
 // Does the command of a whole line, and puts its answer.
-fn answer(a: &mut [u32; 16384], line: &[u8; 24], out: &mut [u8; 65536], k: Kept) -> Kept
+fn answer(a: &mut [u32; 20480], line: &[u8; 32], out: &mut [u8; 65536], k: Kept) -> Kept
     requires { ⌜ k .used ≤ 65536 ⌝ }
     ensures { λ r. ⌜ r .used ≤ 65536 ⌝ }
 {
     let number = word_at(line, 0);
-    let r = command(a, k.set, number, word_at(line, 8), word_at(line, 16));
+    let wide = 1 < k.kind;
+    let set = k.kind % 2 == 1;
+    let r = if wide {
+        command64(a, line, set)
+    } else {
+        command(a, line, set)
+    };
     let taking = k.taking || number == 9 || number == 10;
-    let sum = if taking { 0 } else { shape_sum(a) };
+    let sum = if taking { 0 } else { shape_sum(a, wide) };
     let at = room(out, k.used);
-    put(out, at, r, taking, sum);
+    let used = put(out, at, r, digits_of(wide), taking, sum);
     Kept {
         len: 0,
-        set: k.set,
+        kind: k.kind,
         taking,
-        used: at + WIDTH,
+        used,
         more: k.more,
     }
 }
 
+// Makes an arena of so many slots.
+fn begin(a: &mut [u32; 20480], kind: u32, slots: u32) {
+    if 1 < kind {
+        map64::make(a, slots);
+    } else {
+        map::make(a, slots);
+    }
+}
+
 // Does what a whole line says: makes the arena anew, or does a command.
-fn obey(a: &mut [u32; 16384], line: &[u8; 24], out: &mut [u8; 65536], k: Kept) -> Kept
+fn obey(a: &mut [u32; 20480], line: &[u8; 32], out: &mut [u8; 65536], k: Kept) -> Kept
     requires { ⌜ k .used ≤ 65536 ⌝ }
     ensures { λ r. ⌜ r .used ≤ 65536 ⌝ }
 {
-    if line[0] != b'n' && line[0] != b's' {
+    let kind = kind_of(line[0]);
+    if kind == 4 {
         return answer(a, line, out, k);
     }
-    map::make(a, word_at(line, 1));
+    begin(a, kind, word_at(line, 1));
     Kept {
         len: 0,
-        set: line[0] == b's',
+        kind,
         taking: false,
         used: k.used,
         more: k.more,
     }
 }
 
-// Takes one byte of input: a newline ends the line, any other byte is kept. No line of the list is longer than 24 bytes.
+// Takes one byte of input: a newline ends the line, any other byte is kept. No line of the list is longer than 32 bytes.
 fn take_byte(
-    a: &mut [u32; 16384],
-    line: &mut [u8; 24],
+    a: &mut [u32; 20480],
+    line: &mut [u8; 32],
     out: &mut [u8; 65536],
     k: Kept,
     b: u8,
@@ -131,13 +193,13 @@ fn take_byte(
         return obey(a, line, out, k);
     }
     let len = k.len;
-    if 24 <= len {
+    if 32 <= len {
         return k;
     }
     line[len] = b;
     Kept {
         len: len + 1,
-        set: k.set,
+        kind: k.kind,
         taking: k.taking,
         used: k.used,
         more: k.more,
@@ -146,8 +208,8 @@ fn take_byte(
 
 // Takes the bytes of one read. Where the reads cut a line does not matter, since what was read of it is kept.
 fn take_all(
-    a: &mut [u32; 16384],
-    line: &mut [u8; 24],
+    a: &mut [u32; 20480],
+    line: &mut [u8; 32],
     out: &mut [u8; 65536],
     k: Kept,
     bytes: &[u8],
@@ -165,7 +227,7 @@ fn take_all(
 }
 
 // Reads once and takes what came; where nothing came, says that there is no more.
-fn turn(a: &mut [u32; 16384], line: &mut [u8; 24], out: &mut [u8; 65536], k: Kept) -> Kept
+fn turn(a: &mut [u32; 20480], line: &mut [u8; 32], out: &mut [u8; 65536], k: Kept) -> Kept
     requires { ⌜ k .used ≤ 65536 ⌝ }
     ensures { λ r. ⌜ r .used ≤ 65536 ⌝ }
 {
@@ -175,7 +237,7 @@ fn turn(a: &mut [u32; 16384], line: &mut [u8; 24], out: &mut [u8; 65536], k: Kep
     if n == 0 {
         return Kept {
             len: k.len,
-            set: k.set,
+            kind: k.kind,
             taking: k.taking,
             used: k.used,
             more: false,
@@ -186,12 +248,12 @@ fn turn(a: &mut [u32; 16384], line: &mut [u8; 24], out: &mut [u8; 65536], k: Kep
 
 // A proved loop has to end, and nothing says that the input does. So the turns are counted down, from a number that no run uses up.
 fn main() {
-    let mut a = [0u32; 16384];
-    let mut line = [0u8; 24];
+    let mut a = [0u32; 20480];
+    let mut line = [0u8; 32];
     let mut out = [0u8; 65536];
     let mut k = Kept {
         len: 0,
-        set: false,
+        kind: 0,
         taking: false,
         used: 0,
         more: true,

@@ -37,9 +37,40 @@ fn weighed(w: u32, one: u64, high: u64, low: u64) -> u64
     (times(h, high) + times(l, low)) % P
 }
 
+// Where the value stands of the slot that the link leads to: before it is the key, its low word last, and behind it are the two links.
+fn value_at(wide: bool, link: usize) -> usize
+    requires { ⌜ (1 ≤ link) × (link ≤ 4095) ⌝ }
+    ensures { λ r. ⌜ (2 ≤ r) × (r ≤ 20476) ⌝ }
+{
+    if wide { 5 * link + 1 } else { 4 * link + 1 }
+}
+
+// What the key of the slot that the link leads to adds: its low word by the first two factors and, where it has two, its high word by the
+// last two.
+fn key_weighed(
+    a: &[u32; 20480],
+    wide: bool,
+    link: usize,
+    one: u64,
+    f: u64,
+    g: u64,
+    h: u64,
+    i: u64,
+) -> u64
+    requires { ⌜ (1 ≤ link) × (link ≤ 4095) × (one ≤ 1) × (f < 2147483647) × (g < 2147483647) × (h < 2147483647) × (i < 2147483647) ⌝ }
+    ensures { λ r. ⌜ r < 2147483647 ⌝ }
+{
+    let at = value_at(wide, link);
+    let low = weighed(a[at - 1], one, f, g);
+    if wide {
+        return (low + weighed(a[at - 2], 0, h, i)) % P;
+    }
+    low
+}
+
 // What a child adds to its parent's share: its key, weighed, or nothing where there is none. No link of a well-formed arena is above 4095.
-fn child(a: &[u32; 16384], link: u32, high: u64, low: u64) -> u64
-    requires { ⌜ (high < 2147483647) × (low < 2147483647) ⌝ }
+fn child(a: &[u32; 20480], wide: bool, link: u32, f: u64, g: u64, h: u64, i: u64) -> u64
+    requires { ⌜ (f < 2147483647) × (g < 2147483647) × (h < 2147483647) × (i < 2147483647) ⌝ }
     ensures { λ r. ⌜ r < 2147483647 ⌝ }
 {
     if link == 0 {
@@ -48,28 +79,52 @@ fn child(a: &[u32; 16384], link: u32, high: u64, low: u64) -> u64
     if 4095 < link {
         return 0;
     }
-    let at = 4 * (link as usize);
-    weighed(a[at], 1, high, low)
+    key_weighed(a, wide, link as usize, 1, f, g, h, i)
 }
 
 // The share of the node that the link leads to; a free slot has none.
-fn share(a: &[u32; 16384], link: usize) -> u64
-    requires { ⌜ link ≤ 4095 ⌝ }
+fn share(a: &[u32; 20480], wide: bool, link: usize) -> u64
+    requires { ⌜ (1 ≤ link) × (link ≤ 4095) ⌝ }
     ensures { λ r. ⌜ r < 2147483647 ⌝ }
 {
-    let at = 4 * link;
-    if a[at + 3] == M {
+    let at = value_at(wide, link);
+    if a[at + 2] == M {
         return 0;
     }
-    let key = weighed(a[at], 0, 1664525013, 1103515245);
-    let value = weighed(a[at + 1], 0, 1597334677, 747796405);
-    let left = child(a, a[at + 2], 1181783497, 1640531527);
-    let right = child(a, a[at + 3], 1812433253, 907633385);
+    let key = key_weighed(
+        a,
+        wide,
+        link,
+        0,
+        1664525013,
+        1103515245,
+        1220703125,
+        1977326743,
+    );
+    let value = weighed(a[at], 0, 1597334677, 747796405);
+    let left = child(
+        a,
+        wide,
+        a[at + 1],
+        1181783497,
+        1640531527,
+        1162261467,
+        1801088541,
+    );
+    let right = child(
+        a,
+        wide,
+        a[at + 2],
+        1812433253,
+        907633385,
+        1406563717,
+        1742810335,
+    );
     power17((1013904223 + key + value + left + right) % P)
 }
 
 // The sum of the shares of all slots, which for a well-formed arena is that of its tree's nodes.
-pub fn shape_sum(a: &[u32; 16384]) -> u32
+pub fn shape_sum(a: &[u32; 20480], wide: bool) -> u32
     ensures { λ r. ⌜ r < 2147483647 ⌝ }
 {
     let n = a[0];
@@ -81,7 +136,7 @@ pub fn shape_sum(a: &[u32; 16384]) -> u32
     let mut link: usize = 0;
     while link < slots {
         link += 1;
-        sum = (sum + share(a, link)) % P;
+        sum = (sum + share(a, wide, link)) % P;
     }
     sum as u32
 }

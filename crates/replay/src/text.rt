@@ -13,8 +13,8 @@ fn digit(b: u8) -> u32
 }
 
 // The word in the eight digits of the line from `at` on.
-pub fn word_at(line: &[u8; 24], at: usize) -> u32
-    requires { ⌜ at + 8 ≤ 24 ⌝ }
+pub fn word_at(line: &[u8; 32], at: usize) -> u32
+    requires { ⌜ at + 8 ≤ 32 ⌝ }
 {
     let mut w: u32 = 0;
     for i in 0..8 {
@@ -24,18 +24,18 @@ pub fn word_at(line: &[u8; 24], at: usize) -> u32
 }
 
 // The byte of a digit.
-fn byte_of(d: u32) -> u8
+fn byte_of(d: u64) -> u8
     requires { ⌜ d < 16 ⌝ }
 {
     if d < 10 { 48 + d as u8 } else { 87 + d as u8 }
 }
 
-// Puts the eight digits of a word, the low one first, at the right end.
-pub fn spell(out: &mut [u8; 65536], at: usize, w: u32)
-    requires { ⌜ at + 8 ≤ 65536 ⌝ }
+// Puts so many digits of a number, the low one first, at the right end.
+pub fn spell(out: &mut [u8; 65536], at: usize, digits: usize, w: u64)
+    requires { ⌜ at + digits ≤ 65536 ⌝ }
 {
     let mut rest = w;
-    let mut i: usize = 8;
+    let mut i = digits;
     while 0 < i {
         i -= 1;
         out[at + i] = byte_of(rest % 16);

@@ -1,5 +1,5 @@
--- `replay::take_all` meets its contract. The loop's invariant: the bytes that wait are within the buffer. The measure is how many bytes of the
--- read are left. Assumes nothing.
+-- `replay::take_all` meets its contract. The loop's invariant: the bytes that wait are within the buffer. The measure is how many bytes of
+-- the read are left. Assumes nothing.
 use Prim.Native.Nat.{_-_, _≤_}
 use lib.ListN.{length}
 use borrow.Author.Needs.{needs}

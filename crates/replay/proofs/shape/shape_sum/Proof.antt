@@ -6,10 +6,10 @@ use Rattle.replay.proofs.shape.shape_sum.Statement.{statement}
 use Rattle.replay.proofs.shape.shape_sum.Tie as tie
 
 abbrev Inv-loop : tie.InvT-loop
-Inv-loop a n slots sum₀ link₀ sum link = (link ≤ slots) × (slots ≤ 4095) × (sum < 2147483647)
+Inv-loop a wide n slots sum₀ link₀ sum link = (link ≤ slots) × (slots ≤ 4095) × (sum < 2147483647)
 
 abbrev μ-loop : tie.MeasureT-loop
-μ-loop a n slots sum₀ link₀ sum link = slots - link
+μ-loop a wide n slots sum₀ link₀ sum link = slots - link
 
 element-copy-out-n : tie.Need-element-copy-out-n Inv-loop μ-loop
 element-copy-out-n c = search needs

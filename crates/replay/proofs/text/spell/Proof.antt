@@ -1,14 +1,14 @@
--- `replay::text::spell` is safe and ends: it counts down from 8. Assumes nothing.
+-- `replay::text::spell` is safe and ends: it counts down from the number of digits. Assumes nothing.
 use Prim.Native.Nat.{_≤_}
 use borrow.Author.Needs.{needs}
 use Rattle.replay.proofs.text.spell.Statement.{statement}
 use Rattle.replay.proofs.text.spell.Tie as tie
 
 abbrev Inv-loop : tie.InvT-loop
-Inv-loop out₀ at w rest₀ i₀ out rest i = i ≤ 8
+Inv-loop out₀ at digits w rest₀ i₀ out rest i = i ≤ digits
 
 abbrev μ-loop : tie.MeasureT-loop
-μ-loop out₀ at w rest₀ i₀ out rest i = i
+μ-loop out₀ at digits w rest₀ i₀ out rest i = i
 
 loop-holds : tie.Need-loop-holds Inv-loop μ-loop
 loop-holds c = search needs
