@@ -1,6 +1,6 @@
--- `pipes::nap` is safe and ends: a walk of its MIR, by hand. All that it knows of `libc::nanosleep` is that it meets its contract.
--- Each of the two structs is lent for a lifetime that is made for the call, and comes back once that lifetime is over: `left` at some value, since the contract says nothing of its last one.
--- Assumes nothing.
+-- `pipes::nap` is safe and ends: a walk of its MIR, by hand. All that it knows of `libc::nanosleep` is that it meets its contract. Each of
+-- the two structs is lent for a lifetime that is made for the call, and comes back once that lifetime is over: `left` at some value, since
+-- the contract says nothing of its last one. Assumes nothing.
 use mathlib.Core.Path.{refl}
 use Prim.Native.Nat.{ℕ, _<_, _^_}
 use mathlib.Core.List.{[], _∷_, List}
@@ -124,7 +124,8 @@ module _ {M : Type 1} (𝓤 : URA M) (H : Heap 𝓤) (A : Atoms 𝓤) (W : Given
         move ! (9 ∷ []) $ use1 W (‵ (partAt the-row fullShare (time (pos 0)) l₃ 0)) (lies 𝓤 H A W (pos 0) (lit< tt) l₃) $ lft-new ! tt (λ β. move ! (1 ∷ []) $
         use1 W (later (some (λ (δ : GName). ‵ (MutRef (named 1) (β ∷ []) the-row .own (at l₃ δ (pos 0)) (vptr l₃ 0 ∷ [])) ⊛ ‵ (flent (β ∷ []) (Body (mem the-row) l₃ 0 δ)))))
         (lends-ref 𝓤 H A W the-row (named 1) (β ∷ []) (time (pos 0)) l₃ 0) $ await ! tt $ pick ! (λ δ. split ! $
-        -- [the `&mut`; its lender's part; the token of β; the `&`; its lender's part; the token of α; _6; …; _5; …; _4; …; what frees _3; what frees _2; _1; …; _0; …]
+        -- [the `&mut`; its lender's part; the token of β; the `&`; its lender's part; the token of α; _6; …; _5; …; _4; …; what frees _3;
+        -- what frees _2; _1; …; _0; …]
         nothing ! $ move ! (1 ∷ 0 ∷ []) $ fjoin ! $ move ! (3 ∷ 0 ∷ []) $ fjoin ! $ nothing ! $ move ! (3 ∷ 0 ∷ []) $ join ! $ move ! (4 ∷ 0 ∷ 1 ∷ []) $ join ! $ join ! $ nothing ! $ move ! (1 ∷ 0 ∷ []) $ join ! $
         use1 W (raw (Sleep 𝓤 H A memory run .pre (to-sleep α β l₂ γ l₃ δ))) (id⊢ 𝓤 _) $
         calls-at ! fm (Sleep 𝓤 H A memory run) known (to-sleep α β l₂ γ l₃ δ) (and-then ! (load ! (from ! (stop !)) (look ! 5 refl)) (and-then ! (load ! (from ! (stop !)) (look ! 3 refl)) (no-more !))) (λ w.
