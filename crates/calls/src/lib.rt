@@ -1,6 +1,8 @@
 // The calls over an arena whose keys take `width` words, one or two: making, one command, a run; for the map, or, where `keys` is true, for
 // the set. They assume nothing of any word that they are lent: what they cannot use they refuse, and then no word has changed. The crates
 // of the two editions give them to a caller, each with its own width.
+#![tactic(auto)]
+
 mod making;
 mod steps;
 

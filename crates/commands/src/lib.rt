@@ -1,6 +1,8 @@
 // The twelve commands: on one tree with a head of its own (`obey`), and on an arena, whose head is its words 1 to 3 (`command`); and the
 // words of a new arena (`fresh`). `obey` may assume that a tree and its free chain stand under their head, in slots within the words,
 // `command` that the arena is well formed, `fresh` that the words are there.
+#![tactic(auto)]
+
 mod making;
 mod obeying;
 

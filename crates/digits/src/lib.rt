@@ -1,5 +1,7 @@
 // Words from and to hexadecimal digits, eight of them each, the highest first. Of lines, keys and their width nothing is known here.
 // Functions that are lent a table may assume that it is the one that is made here, and that the eight bytes are there.
+#![tactic(auto)]
+
 ghost use Rattle.std.specs.Prelude.{◌≡◌, ◌+◌, ◌<◌, ◌≤◌, length, take, drop};
 ghost use Rattle.std.proofs.lemmas.List.Edits.{sets};
 ghost use Rattle.rules.specs.Lines.{digit, digits, byte_of, spelled};

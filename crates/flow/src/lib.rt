@@ -1,5 +1,7 @@
 // A stream of lines, for keys of `width` words, one or two: what the line program writes for pieces of its input, and what it has to
 // remember from one piece to the next. `feed` and `finish` assume that the width is one of the two, and nothing else.
+#![tactic(auto)]
+
 ghost use Rattle.std.specs.Prelude.{List, [], ◌∷◌, ◌≡◌, ℕ, ◌+◌, ◌<◌, ◌≤◌, length};
 ghost use Rattle.std.proofs.Math.Option.{some};
 ghost use Rattle.rules.specs.Command as rules;

@@ -1,6 +1,8 @@
 // The check of an arena whose keys take `width` words, one or two: is it well formed? Nothing is assumed of its words, and none is changed.
 // It goes once over the tree and once over the free chain, in time linear in N, and no call's depth grows: the walk over the tree keeps its
 // way back in scratch words that are lent to it.
+#![tactic(auto)]
+
 ghost use Rattle.std.specs.Prelude.{◌≤◌, length};
 ghost use Rattle.rules.specs.Edition.{edition, Width};
 ghost use Rattle.node.specs.Stands.{Inside};

@@ -1,6 +1,8 @@
 // The map's calls under plain names, for a program in C or Rust that links the static library (`rt staticlib host`). A slice is its first
 // word's address and its length in words. What such a caller must keep to nobody checks: the words are there, and the slices do not
 // overlap.
+#![tactic(auto)]
+
 ghost use Rattle.std.specs.Prelude.{◌≡◌};
 ghost use Rattle.rules.specs.Edition.{tags};
 ghost use Rattle.rules.specs.Reading.{as_map};

@@ -1,5 +1,7 @@
 // How a set reads a command and words an answer. A key has no value there: an insert stores 0, an answer tells 0, and command 2, which
 // writes a value, is unknown.
+#![tactic(auto)]
+
 ghost use Rattle.std.specs.Prelude.{◌≡◌, ℕ};
 ghost use Rattle.rules.specs.Command as rules;
 ghost use Rattle.rules.specs.Reading.{as_set, read_as, answer_as};

@@ -1,6 +1,8 @@
 // One line, read and written, for keys of `width` words, one or two: a command's words from lower-case hexadecimal digits, eight for each
 // word, and an answer's words as digits and a newline. A key of two words has its high word first. It may be assumed that the width is one
 // of the two; a line that is read may be anything.
+#![tactic(auto)]
+
 ghost use Rattle.std.specs.Prelude.{◌≡◌, ◌+◌, ◌*◌, ◌≤◌, length};
 ghost use Rattle.std.proofs.lemmas.List.Edits.{sets};
 ghost use Rattle.rules.specs.Edition.{edition, Width, Spells};

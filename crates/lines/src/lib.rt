@@ -1,5 +1,7 @@
 // Lines of the tags edition, whose keys take one word: a command from exactly 24 digits, an answer as 32 digits and a newline, and a stream
 // of such lines. What is public here takes anything. The work is done by `line` and `flow`, for any width.
+#![tactic(auto)]
+
 ghost use Rattle.std.specs.Prelude.{◌≡◌, [], ◌∷◌, ◌++◌};
 ghost use Rattle.rules.specs.Lines.{all_spelled, newline};
 ghost use Rattle.lines.specs.Read.{Reads};

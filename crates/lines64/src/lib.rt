@@ -1,5 +1,7 @@
 // Lines of the edition whose keys take two words: a command from exactly 32 digits, an answer as 40 digits and a newline, and a stream of
 // such lines. A key's high word comes first. What is public here takes anything. The work is done by `line` and `flow`, for any width.
+#![tactic(auto)]
+
 ghost use Rattle.std.specs.Prelude.{◌≡◌, [], ◌∷◌, ◌++◌, ◌/◌, ◌%◌};
 ghost use Rattle.rules.specs.Edition.{word_values};
 ghost use Rattle.rules.specs.Lines.{all_spelled, newline};

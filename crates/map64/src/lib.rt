@@ -1,5 +1,7 @@
 // The map of tags with a private creator, whose keys take two words: making, one command, a run, checking. These calls assume nothing of
 // any word that they are lent: what they cannot use they refuse, and then no word has changed.
+#![tactic(auto)]
+
 ghost use Rattle.std.specs.Prelude.{◌≡◌};
 ghost use Rattle.rules.specs.Edition.{tags64};
 ghost use Rattle.rules.specs.Reading.{as_map};

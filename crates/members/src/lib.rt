@@ -1,5 +1,7 @@
 // The set's calls by name, over an arena whose keys take `width` words, one or two: is a key there, put it in, take it out. They stand on
 // the contract of `calls::one` alone, and assume nothing of any word that they are lent.
+#![tactic(auto)]
+
 ghost use Rattle.std.specs.Prelude.{◌≡◌};
 ghost use Rattle.rules.specs.Edition.{Width, Spells};
 ghost use Rattle.rules.specs.Command.{get, insert, remove};

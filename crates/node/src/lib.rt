@@ -1,6 +1,8 @@
 // A slot's words, by the link that leads to it. The link x leads to slot x - 1. A key takes `width` words, one or two, and a slot three
 // more: the word j of the slot is at (3 + width) * x + j, where 0 is the key's last word, 1 the value, 2 and 3 the left and the right link.
 // Only `key_at` and `put_key_at` know how a key stands in words. These functions may assume that the words they name are there.
+#![tactic(auto)]
+
 ghost use Rattle.std.specs.Prelude.{◌≡◌, ℕ, suc, ◌+◌, ◌*◌, ◌≤◌, ◌<◌, length, get_or, set};
 ghost use Rattle.std.proofs.lemmas.List.Edits.{sets};
 ghost use Rattle.rules.specs.Edition.{edition, word_values, spelled, key_in, Width, Spells};

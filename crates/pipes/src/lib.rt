@@ -1,5 +1,7 @@
 // Reading and writing descriptors that may be non-blocking, as a pipe is that another program made so: a call that would block is tried
 // again after a nap. The naps grow while nothing moves, so that waiting takes little of the processor. Assumes nothing.
+#![tactic(auto)]
+
 ghost use Rattle.std.specs.Prelude.{length};
 ghost use Rattle.libc.specs.Io.{Moved};
 

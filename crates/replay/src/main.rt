@@ -2,6 +2,8 @@
 // begins an arena of the map and s one of the set, N and S the same with keys of two words. They are done by the public calls of the map
 // and of the set of that edition, in one arena, and each command's answer goes to standard output as the oracle writes it, with the sum of
 // the tree's shape; so what is written has to be, byte for byte, what the Rust answered.
+#![tactic(auto)]
+
 mod shape;
 mod text;
 

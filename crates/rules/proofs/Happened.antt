@@ -110,13 +110,13 @@ module _ {K : Type 0} (ed : Edition K) where
         → Happened ed calls w gave w' → Holding ed n (live ed n calls l) w' × Follow ed n l calls gave
     unfolding live
     all_steps h nothing_yet = (h, no_call)
-    all_steps h (one_first {r = r} {m = m} {k = k} {v = v} g more) =
+    all_steps {n = n} {l = l} h (one_first {r = r} {m = m} {k = k} {v = v} g more) =
         let x = one_step r m k v h g in
-        let y = all_steps x.0 more in
+        let y = all_steps {l = after_call ed n (one r m k v) l} x.0 more in
         (y.0, one_follows x.1 y.1)
-    all_steps h (run_first {r = r} {cs = cs} g more) =
+    all_steps {n = n} {l = l} h (run_first {r = r} {cs = cs} {buffer = buffer} g more) =
         let x = run_step r cs h g in
-        let y = all_steps x.0 more in
+        let y = all_steps {l = after_call ed n (run r cs buffer) l} x.0 more in
         (y.0, run_follows x.1 y.1)
 
     -- A new arena holds nothing.
@@ -131,15 +131,15 @@ module _ {K : Type 0} (ed : Edition K) where
     pub can_happen : {n : ℕ} {l : List (Pair K)} {w : List ℕ} (calls : List (Call K)) → Holding ed n l w
         → (gave : List Given) × (w' : List ℕ) × Happened ed calls w gave w'
     can_happen {w = w} [] h = ([], w, nothing_yet)
-    can_happen {w = w} (one r m k v ∷ calls) h =
+    can_happen {n = n} {l = l} {w = w} (one r m k v ∷ calls) h =
         let given : Replied = one_on ed r (command m k v) w h.state in
         let g : One ed r m k v w given = well_formed h.state h.formed refl in
-        let x = can_happen calls (one_step r m k v h g).0 in
+        let x = can_happen {l = after_call ed n (one r m k v) l} calls (one_step r m k v h g).0 in
         (replied given ∷ x.0, x.1, one_first g x.2)
-    can_happen {w = w} (run r cs buffer ∷ calls) h =
+    can_happen {n = n} {l = l} {w = w} (run r cs buffer ∷ calls) h =
         let given : Ran = run_on ed r cs w buffer h.state in
         let g : Run ed r cs w buffer given = well_formed h.state h.formed refl in
-        let x = can_happen calls (run_step r cs h g).0 in
+        let x = can_happen {l = after_call ed n (run r cs buffer) l} calls (run_step r cs h g).0 in
         (ran given ∷ x.0, x.1, run_first g x.2)
 
   -- Calls that happened, parted.

@@ -33,9 +33,9 @@ up (toward right) a b h = omega arith
 
 says : (a b : ℕ) → Says (by_number a b) a b
 says zero zero = refl
-says zero (suc b) = rw compare.zero_suc (omega arith)
-says (suc a) zero = rw compare.suc_zero (omega arith)
-says (suc a) (suc b) = rw compare.suc_suc (up (by_number a b) a b (says a b))
+says zero (suc b) = rw compare.zero-suc (omega arith)
+says (suc a) zero = rw compare.suc-zero (omega arith)
+says (suc a) (suc b) = rw compare.suc-suc (up (by_number a b) a b (says a b))
 
 one_order : (o p : Order) (a b : ℕ) → Says o a b → Says p a b → o ≡ p
 one_order equal equal a b h k = refl

@@ -1,6 +1,8 @@
 // The line program over standard input and output, for keys of `width` words, one or two: commands are read, their answers written, and
 // standard error says what failed, after the program's name. Assumes that the width is one of the two; the words of the arena may be
 // anything.
+#![tactic(auto)]
+
 ghost use Rattle.std.specs.Prelude.{◌≤◌, length};
 ghost use Rattle.rules.specs.Edition.{Width};
 

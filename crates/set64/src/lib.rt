@@ -1,6 +1,8 @@
 // The ordered set of tags with a private creator, whose keys take two words: the map's commands, read as a set reads them. A key has no
 // value here: an insert stores 0, an answer tells 0, and command 2, which writes a value, is unknown. These calls assume nothing of any
 // word that they are lent: what they cannot use they refuse, and then no word has changed. An arena is made, and refused, as the map's.
+#![tactic(auto)]
+
 ghost use Rattle.rules.specs.Edition.{tags64};
 ghost use Rattle.rules.specs.Command.{get, insert, remove};
 ghost use Rattle.rules.specs.Reading.{as_set};

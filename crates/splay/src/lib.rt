@@ -1,5 +1,7 @@
 // The splay in an arena, and the other ways in which a tree changes shape. Every function here may assume that a tree stands where
 // it is told to look, in an arena whose keys take `width` words, one or two. It changes no word outside that tree's slots.
+#![tactic(auto)]
+
 ghost use Rattle.std.specs.Prelude.{◌≡◌, ℕ, ◌+◌, ◌*◌, ◌<◌, set};
 ghost use Rattle.rules.specs.Order.{by_number};
 ghost use Rattle.rules.specs.Edition.{edition, Width};

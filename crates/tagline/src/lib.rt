@@ -1,5 +1,7 @@
 // The line program for keys of one word: the words of its arena, and its name. Its caller, start/main.c, ends the process with the status
 // that it returns: a program's own `main` has none. Assumes nothing.
+#![tactic(auto)]
+
 use server::program;
 
 // The whole program: the status that the process ends with.
