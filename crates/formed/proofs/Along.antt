@@ -19,12 +19,12 @@ pub data Piled (n : ℕ) (work : List ℕ) : ℕ → List ℕ → Type 0 where
   bottom : Piled n work zero []
   on : {p s : ℕ} {waiting : List ℕ} → get_or work p 0 ≡ suc s → s < n → Piled n work p waiting → Piled n work (suc p) (s ∷ waiting)
 
-piled_length : {n p : ℕ} {work waiting : List ℕ} → Piled n work p waiting → length waiting ≡ p
+piled_length : {n : ℕ} {work : List ℕ} {p : ℕ} {waiting : List ℕ} → Piled n work p waiting → length waiting ≡ p
 piled_length bottom = refl
 piled_length (on e h q) = ap suc (piled_length q)
 
 -- A word stored above them leaves them.
-piled_set : {n p : ℕ} {work waiting : List ℕ} (j v : ℕ) → p ≤ j → Piled n work p waiting → Piled n (set work j v) p waiting
+piled_set : {n : ℕ} {work : List ℕ} {p : ℕ} {waiting : List ℕ} (j v : ℕ) → p ≤ j → Piled n work p waiting → Piled n (set work j v) p waiting
 piled_set j v b bottom = bottom
 piled_set {work = work} j v b (on {p} e h q) = on (get_or-set_other work j p v 0 (omega arith) ∙ e) h (piled_set j v (omega arith) q)
 

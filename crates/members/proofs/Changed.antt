@@ -49,12 +49,12 @@ module _ {wd : ℕ} (width : Width wd) where
     put_to : (l : List (Pair ℕ)) → (j ≡ p.key) ⊎ Among j l → Among j (put (edition wd) p l)
     unfolding put
     put_to [] (inl e) = Memᴰ.head e
-    put_to [] (inr h) = absurd (Memᴰ.not_nil h)
+    put_to [] (inr h) = absurd (Memᴰ.not-nil h)
     put_to (x ∷ l) h = put_to_by x l (put (edition wd) p l) ((edition wd).order p.key x.key) refl (put_to l) h
 
   -- A key that is before a list is not in it.
   not_behind : (k : ℕ) (l : List (Pair ℕ)) → Before (edition wd) k l → Among k l → ⊥
-  not_behind k [] b h = Memᴰ.not_nil h
+  not_behind k [] b h = Memᴰ.not-nil h
   not_behind k (x ∷ l) b h =
       ⊎_elim (differ width k x.key b.0) (not_behind k l b.1) (Memᴰ.cases_cons h)
 
@@ -79,7 +79,7 @@ module _ {wd : ℕ} (width : Width wd) where
 
     without_keys : (l : List (Pair ℕ)) → Ascending (edition wd) l → Among j (without (edition wd) k l) ↔ (Among j l × (j ≡ k → ⊥))
     unfolding without
-    without_keys [] a = (λ h. absurd (Memᴰ.not_nil h), λ h. h.0)
+    without_keys [] a = (λ h. absurd (Memᴰ.not-nil h), λ h. h.0)
     without_keys (x ∷ l) a = without_by x l (without (edition wd) k l) ((edition wd).order k x.key) refl a.0 (without_keys l a.1)
 
   -- An insert that is not FULL adds its key, and one that is changes nothing.

@@ -55,7 +55,7 @@ module _ {wd : ℕ} (width : Width wd) where
 
   finds : (k : ℕ) (l : List (Pair ℕ)) → Found k l (find (edition wd) k l)
   unfolding find
-  finds k [] = not_among Memᴰ.not_nil
+  finds k [] = not_among Memᴰ.not-nil
   finds k (x ∷ l) = beside k x l ((edition wd).order k x.key) refl (finds k l)
 
   -- Says of x what it says of another thing that determines x.
@@ -157,7 +157,7 @@ module _ {wd : ℕ} (width : Width wd) where
   pub run_no_value : (cs : List (Command ℕ)) (st : State ℕ) (a : Answer ℕ) → Memᴰ a (perform_all (edition wd) as_set cs st).answers
       → (code_number a.code ≡ code_number COUNT → ⊥) → a.value ≡ 0
   unfolding perform_all
-  run_no_value [] st a h d = absurd (Memᴰ.not_nil h)
+  run_no_value [] st a h d = absurd (Memᴰ.not-nil h)
   run_no_value (c ∷ cs) st a h d =
       ⊎_elim
       (λ e. ap (λ (x : Answer ℕ). x.value) e ∙ no_value c st (λ q. d (ap (λ (x : Answer ℕ). code_number x.code) e ∙ q)))
