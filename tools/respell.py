@@ -82,7 +82,9 @@ def quoted_respelt(text):
 
 def line_respelt(text):
     code, dashes, comment = text.partition("-- ") if not text.startswith("--") else ("", "", text)
-    return TOKEN.sub(lambda m: respelt(m[0]), code) + dashes + quoted_respelt(comment)
+    # What stands in a string is data.
+    parts = [part if part.startswith('"') else TOKEN.sub(lambda m: respelt(m[0]), part) for part in re.split(r'("[^"]*")', code)]
+    return "".join(parts) + dashes + quoted_respelt(comment)
 
 
 def antt(text):

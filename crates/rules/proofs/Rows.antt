@@ -13,7 +13,7 @@ use Rattle.rules.specs.Twelve.{twelve, six}
 use Rattle.rules.specs.Rows.{rows, wide_rows}
 
 -- How the tables are written.
-read : numbers "10 4095, M 0 M_5, 7" ≡ (10 ∷ 4095 ∷ M ∷ 0 ∷ 4294967290 ∷ 7 ∷ [])
+read : numbers "10 4095, M 0 M-5, 7" ≡ (10 ∷ 4095 ∷ M ∷ 0 ∷ 4294967290 ∷ 7 ∷ [])
 unfolding numbers_from
 read = refl
 
