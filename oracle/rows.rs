@@ -77,11 +77,11 @@ impl Story {
         let mut joint = "(";
         for command in self.before.iter().map(read) {
             arena.ask(Map, command);
-            writeln!(out, "    {joint}before as-map \"{}\"", text(&command.words(self.width)))?;
+            writeln!(out, "    {joint}before as_map \"{}\"", text(&command.words(self.width)))?;
             joint = "∷ ";
         }
         for (reading, command) in &self.commands {
-            let reader = if *reading == Map { "as-map" } else { "as-set" };
+            let reader = if *reading == Map { "as_map" } else { "as_set" };
             let command = read(command);
             let answer = text(&arena.ask(*reading, command).words(self.width));
             let (command, words) = (text(&command.words(self.width)), self.arena_text(&arena));
@@ -122,7 +122,7 @@ fn text(words: &[u32]) -> String {
 /// Writes the whole file.
 pub fn write(out: &mut impl Write) -> io::Result<()> {
     write!(out, "{HEAD}")?;
-    for (name, stories) in [("rows", stories()), ("wide-rows", wide_stories())] {
+    for (name, stories) in [("rows", stories()), ("wide_rows", wide_stories())] {
         write!(out, "\nunfoldable pub {name} : List Story\n{name} =\n")?;
         let mut joint = "";
         for story in stories {
@@ -136,11 +136,11 @@ pub fn write(out: &mut impl Write) -> io::Result<()> {
 
 const HEAD: &str = "\
 -- Rows from a second source: an arena in plain Rust, written from the rules in words (`oracle/plain.rs`) and held to the answers of the
--- crate itself. `oracle/record` makes this file; nothing in it is written by hand. `rows` has keys of one word, `wide-rows` keys of two.
+-- crate itself. `oracle/record` makes this file; nothing in it is written by hand. `rows` has keys of one word, `wide_rows` keys of two.
 -- The theorems are in proofs/Rows.antt.
-use mathlib.Core.List.{List, [], _∷_}
-use Rattle·rules·specs.specs.Reading.{as-map, as-set}
-use Rattle·rules·specs.specs.Story.{before, row, Story, story}
+use Rattle.std.specs.Prelude.{List, [], ◌∷◌}
+use Rattle.rules.specs.Reading.{as_map, as_set}
+use Rattle.rules.specs.Story.{before, row, Story, story}
 ";
 
 fn stories() -> Vec<Story> {
