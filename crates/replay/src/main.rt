@@ -1,16 +1,18 @@
 // Replays the recorded lists. Standard input holds makings and commands in the format of oracle/README.md, each line with its newline: n
 // begins an arena of the map and s one of the set, N and S the same with keys of two words. They are done by the public calls of the map
 // and of the set of that edition, in one arena, and each command's answer goes to standard output as the oracle writes it, with the sum of
-// the tree's shape; so what is written has to be, byte for byte, what the Rust answered.
+// the tree's shape; so what is written has to be, byte for byte, what the Rust answered. A read or a write that fails ends the program with
+// its error.
 #![tactic(auto)]
 
 mod shape;
 mod text;
 
-ghost use Rattle.std.specs.Prelude.{◌+◌, ◌≤◌, length};
+ghost use Rattle.std.specs.Prelude.{◌+◌, ◌≤◌, length, IfOk};
 
 use map64::Answer;
 use shape::shape_sum;
+use std::io::{self, Read, Stdin, Stdout};
 use text::{dashes, spell, word_at};
 
 // The most bytes of an output line: 40 digits, a space, the shape's 8, a newline.
@@ -28,30 +30,30 @@ struct Kept {
 }
 
 // Writes the first n bytes.
-fn write_front(out: &[u8], n: usize)
+fn write_front(to: Stdout, out: &[u8], n: usize) -> io::Result<()>
     requires { n ≤ length out.now }
 {
-    io::write_all(1, &out[..n]);
+    to.write_all(&out[..n])
 }
 
 // Writes the bytes that wait in the buffer.
-fn flush(out: &[u8; 65536], used: usize)
+fn flush(to: Stdout, out: &[u8; 65536], used: usize) -> io::Result<()>
     requires { used ≤ 65536 }
 {
-    write_front(out, used);
+    write_front(to, out, used)
 }
 
 // Makes room for one line behind the bytes that wait: where there is none, they are written and the buffer is empty again. The answer is
 // where the line goes.
-fn room(out: &[u8; 65536], used: usize) -> usize
+fn room(to: Stdout, out: &[u8; 65536], used: usize) -> io::Result<usize>
     requires { used ≤ 65536 }
-    ensures { result + 50 ≤ 65536 }
+    ensures { IfOk result (λ at. at + 50 ≤ 65536) }
 {
     if used + WIDTH <= 65536 {
-        return used;
+        return Ok(used);
     }
-    flush(out, used);
-    0
+    flush(to, out, used)?;
+    Ok(0)
 }
 
 // The kind of arena that a byte begins: a map or a set with keys of one word, 0 or 1, or of two words, 2 or 3; 4 where it begins none.
@@ -126,9 +128,15 @@ fn command64(a: &mut [u32; 20480], line: &[u8; 32], set: bool) -> Answer {
 }
 
 // Does the command of a whole line, and puts its answer.
-fn answer(a: &mut [u32; 20480], line: &[u8; 32], out: &mut [u8; 65536], k: Kept) -> Kept
+fn answer(
+    to: Stdout,
+    a: &mut [u32; 20480],
+    line: &[u8; 32],
+    out: &mut [u8; 65536],
+    k: Kept,
+) -> io::Result<Kept>
     requires { k.used ≤ 65536 }
-    ensures { result.used ≤ 65536 }
+    ensures { IfOk result (λ kept. kept.used ≤ 65536) }
 {
     let number = word_at(line, 0);
     let wide = 1 < k.kind;
@@ -140,15 +148,15 @@ fn answer(a: &mut [u32; 20480], line: &[u8; 32], out: &mut [u8; 65536], k: Kept)
     };
     let taking = k.taking || number == 9 || number == 10;
     let sum = if taking { 0 } else { shape_sum(a, wide) };
-    let at = room(out, k.used);
+    let at = room(to, out, k.used)?;
     let used = put(out, at, r, digits_of(wide), taking, sum);
-    Kept {
+    Ok(Kept {
         len: 0,
         kind: k.kind,
         taking,
         used,
         more: k.more,
-    }
+    })
 }
 
 // Makes an arena of so many slots.
@@ -161,94 +169,108 @@ fn begin(a: &mut [u32; 20480], kind: u32, slots: u32) {
 }
 
 // Does what a whole line says: makes the arena anew, or does a command.
-fn obey(a: &mut [u32; 20480], line: &[u8; 32], out: &mut [u8; 65536], k: Kept) -> Kept
+fn obey(
+    to: Stdout,
+    a: &mut [u32; 20480],
+    line: &[u8; 32],
+    out: &mut [u8; 65536],
+    k: Kept,
+) -> io::Result<Kept>
     requires { k.used ≤ 65536 }
-    ensures { result.used ≤ 65536 }
+    ensures { IfOk result (λ kept. kept.used ≤ 65536) }
 {
     let kind = kind_of(line[0]);
     if kind == 4 {
-        return answer(a, line, out, k);
+        return answer(to, a, line, out, k);
     }
     begin(a, kind, word_at(line, 1));
-    Kept {
+    Ok(Kept {
         len: 0,
         kind,
         taking: false,
         used: k.used,
         more: k.more,
-    }
+    })
 }
 
 // Takes one byte of input: a newline ends the line, any other byte is kept. No line of the list is longer than 32 bytes.
 fn take_byte(
+    to: Stdout,
     a: &mut [u32; 20480],
     line: &mut [u8; 32],
     out: &mut [u8; 65536],
     k: Kept,
     b: u8,
-) -> Kept
+) -> io::Result<Kept>
     requires { k.used ≤ 65536 }
-    ensures { result.used ≤ 65536 }
+    ensures { IfOk result (λ kept. kept.used ≤ 65536) }
 {
     if b == b'\n' {
-        return obey(a, line, out, k);
+        return obey(to, a, line, out, k);
     }
     let len = k.len;
     if 32 <= len {
-        return k;
+        return Ok(k);
     }
     line[len] = b;
-    Kept {
+    Ok(Kept {
         len: len + 1,
         kind: k.kind,
         taking: k.taking,
         used: k.used,
         more: k.more,
-    }
+    })
 }
 
 // Takes the bytes of one read. Where the reads cut a line does not matter, since what was read of it is kept.
 fn take_all(
+    to: Stdout,
     a: &mut [u32; 20480],
     line: &mut [u8; 32],
     out: &mut [u8; 65536],
     k: Kept,
     bytes: &[u8],
-) -> Kept
+) -> io::Result<Kept>
     requires { k.used ≤ 65536 }
-    ensures { result.used ≤ 65536 }
+    ensures { IfOk result (λ kept. kept.used ≤ 65536) }
 {
     let mut now = k;
     let mut i = 0;
     while i < bytes.len() {
-        now = take_byte(a, line, out, now, bytes[i]);
+        now = take_byte(to, a, line, out, now, bytes[i])?;
         i += 1;
     }
-    now
+    Ok(now)
 }
 
 // Reads once and takes what came; where nothing came, says that there is no more.
-fn turn(a: &mut [u32; 20480], line: &mut [u8; 32], out: &mut [u8; 65536], k: Kept) -> Kept
+fn turn(
+    mut from: Stdin,
+    to: Stdout,
+    a: &mut [u32; 20480],
+    line: &mut [u8; 32],
+    out: &mut [u8; 65536],
+    k: Kept,
+) -> io::Result<Kept>
     requires { k.used ≤ 65536 }
-    ensures { result.used ≤ 65536 }
+    ensures { IfOk result (λ kept. kept.used ≤ 65536) }
 {
-    let mut buf = io::large_buffer();
-    let got = libc::read(0, &mut buf);
-    let n = io::count(got, &buf);
+    let mut buf = [0u8; 65536];
+    let n = from.read(&mut buf)?;
     if n == 0 {
-        return Kept {
+        return Ok(Kept {
             len: k.len,
             kind: k.kind,
             taking: k.taking,
             used: k.used,
             more: false,
-        };
+        });
     }
-    take_all(a, line, out, k, &buf[..n])
+    take_all(to, a, line, out, k, &buf[..n])
 }
 
 // A proved loop has to end, and nothing says that the input does. So the turns are counted down, from a number that no run uses up.
-fn main() {
+fn main(rt: HostRuntime) -> io::Result<()> {
     let mut a = [0u32; 20480];
     let mut line = [0u8; 32];
     let mut out = [0u8; 65536];
@@ -261,8 +283,8 @@ fn main() {
     };
     let mut turns = u64::MAX;
     while turns > 0 && k.more {
-        k = turn(&mut a, &mut line, &mut out, k);
+        k = turn(rt.stdin(), rt.stdout(), &mut a, &mut line, &mut out, k)?;
         turns -= 1;
     }
-    flush(&out, k.used);
+    flush(rt.stdout(), &out, k.used)
 }
