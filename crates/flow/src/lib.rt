@@ -254,6 +254,7 @@ pub fn feed(a: &mut [u32], width: usize, pending: Pending, input: &[u8], out: &m
 }
 
 // The input has ended: a line without its newline is answered as if it had come. After a last newline no line follows.
+#[tactic(auto, unfolding(crate::specs::Stream::closing))]
 pub fn finish(a: &mut [u32], width: usize, pending: Pending, out: &mut [u8]) -> Fed
     requires { Width width }
     ensures { Feeds (edition width) pending (closing pending) out.old a.old
