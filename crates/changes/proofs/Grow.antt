@@ -6,7 +6,7 @@ use native.Mathlib.Omega.{arith}
 use lib.ListN.{length, get_or, set}
 use Rattle.rules.specs.Order.{Side, left, right, other, toward, by_number}
 use Rattle.rules.specs.Edition.{edition, Width}
-use Rattle.rules.specs.Tree.{Entry, Tree, none, node, fork, hit, times, size, link_to}
+use Rattle.rules.specs.Tree.{Entry, Tree, none, node, fork, hit, times, link_to}
 use Rattle.rules.specs.Perform.{State, taking, new_root}
 use Rattle.rules.specs.Arena.{Slot, Holds, Chained, free_slot, first_link, listed}
 use Rattle.rules.proofs.Hit.{hit_same}

@@ -1,0 +1,12 @@
+-- The walk goes down from the root; the tree that is left gets smaller.
+use Rattle.rules.specs.Tree.{size}
+use Rattle.node.specs.Stands.{side_of}
+use Rattle.splay.proofs.Turns.{read_off}
+use Rattle.lookups.proofs.Walks.{Walk, Ending}
+use Rattle.lookups.proofs.neighbours.outermost.Given as goal
+
+abbrev pub invariant-loop-x : goal.invariant-loop-x
+invariant-loop-x l = Walk l.width l.a (Ending (side_of l.p) (read_off l.width l.a l.root)) l.x l.best
+
+abbrev pub decreases-loop-x : goal.decreases-loop-x
+decreases-loop-x l = size (read_off l.width l.a l.x)
