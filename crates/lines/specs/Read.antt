@@ -1,5 +1,5 @@
 -- How a line that was read stands for what the rules say of its bytes: as `line` says it for any width, with a key of 32 bits.
-use Rattle.std.specs.Prelude.{List, ◌≡◌, ℕ}
+use Rattle.std.specs.Prelude.{List, ℕ}
 use Rattle.line.specs.declared.Line.TheVariants as wide
 use Rattle.line.specs.declared.Line.{Line as Wide}
 use Rattle.line.specs.Read as line
