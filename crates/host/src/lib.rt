@@ -1,6 +1,6 @@
-// The map's calls under plain names, for a program in C or Rust that links the static library (`rt staticlib host`). A slice is its first
-// word's address and its length in words. What such a caller must keep to nobody checks: the words are there, and the slices do not
-// overlap.
+// The map's calls under plain names, for a program in C or Rust that links the static library (`rt lib` in this folder writes
+// out/libhost.a). A slice is its first word's address and its length in words. What such a caller must keep to nobody checks: the words
+// are there, and the slices do not overlap.
 #![tactic(auto)]
 
 ghost use Rattle.std.specs.Prelude.{◌≡◌};

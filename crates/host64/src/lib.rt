@@ -1,6 +1,6 @@
-// The calls of the map with keys of two words under plain names, for a program in C or Rust that links the static library (`rt staticlib
-// host64`). A slice is its first word's address and its length in words. What such a caller must keep to nobody checks: the words are
-// there, and the slices do not overlap.
+// The calls of the map with keys of two words under plain names, for a program in C or Rust that links the static library (`rt lib` in
+// this folder writes out/libhost64.a). A slice is its first word's address and its length in words. What such a caller must keep to nobody
+// checks: the words are there, and the slices do not overlap.
 #![tactic(auto)]
 
 ghost use Rattle.std.specs.Prelude.{◌≡◌};
