@@ -30,12 +30,12 @@ returns-then-key_of-ne0 c =
 pub returns-then-word-ne0 : goal.returns-then-word-ne0
 returns-then-word-ne0 c =
     refused _ _ _ c.loop-y.invariant
-    (λ r. c.if-word-ne0.true (c.word.ensures ∙ (free_words c.loop-y.invariant c.loop-y-test.true r).value))
+    (λ r. omega (arith, c.word.ensures, c.if-word-ne0.true, (free_words c.loop-y.invariant c.loop-y-test.true r).value))
 
 pub returns-then-word : goal.returns-then-word
 returns-then-word c =
     refused _ _ _ c.loop-y.invariant
-    (λ r. c.if-word.true (c.word-in-loop-y.ensures ∙ (free_words c.loop-y.invariant c.loop-y-test.true r).right))
+    (λ r. omega (arith, c.word-in-loop-y.ensures, c.if-word.true, (free_words c.loop-y.invariant c.loop-y-test.true r).right))
 
 pub loop-y-preserved : goal.loop-y-preserved
 loop-y-preserved c =
@@ -43,8 +43,8 @@ loop-y-preserved c =
     let e : c.loop-y.y ≡ suc (c.loop-y.y - 1) = omega arith in
     let passed : FreeWords c.args.width a c.loop-y.y = record {
       key = λ s e. sym (c.key_of.ensures s e) ∙ c.if-key_of-ne0.false;
-      value = sym c.word.ensures ∙ c.if-word-ne0.false;
-      right = sym c.word-in-loop-y.ensures ∙ c.if-word.false;
+      value = omega (arith, c.word.ensures, c.if-word-ne0.false);
+      right = omega (arith, c.word-in-loop-y.ensures, c.if-word.false);
     } in
     go_on _ a _ c.loop-y.invariant _ e c.word-y.result _ (c.word-y.ensures ∙ link_word on_left _ a _ _ e) (omega arith) (omega arith)
     (free_by_words _ _ _ _ e passed)

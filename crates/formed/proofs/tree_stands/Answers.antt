@@ -50,7 +50,7 @@ returns-then-k-last c =
     let e : c.loop-x.waiting ≡ suc (c.loop-x.waiting - 1) = omega arith in
     let q = next _ _ _ _ c.loop-x.invariant.0 _ e in
     not_planted _ (edition_lawful c.requires.0.width) _ _ _ _
-    (λ r. not_above c.args.width c.loop-x.count c.loop-x.last c.key_of-k.result c.if-count-gt0.true c.if-k-last.true
+    (λ r. not_above c.args.width c.loop-x.count c.loop-x.last c.key_of-k.result c.if-count-gt0.true (omega (arith, c.if-k-last.true))
     (rw (c.key_of-k.ensures _ q.word) (must_climb _ _ _ _ c.loop-x.invariant.0 c.if-x-ne0.false e q r)))
 
 pub word-x-requires-else-x-ne0 : goal.word-x-requires-else-x-ne0
