@@ -1,5 +1,5 @@
 //! The calls for C of either edition, from the static libraries that
-//! `rt staticlib host` and `rt staticlib host64` write. Each command is a run
+//! `rt lib` writes in crates/host and crates/host64. Each command is a run
 //! of its own; and every so often all of them since the arena was made are
 //! given once more in one run, which has to give the same answers and words.
 
