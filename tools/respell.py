@@ -42,7 +42,7 @@ def imports(text):
 
 
 # Names with a dash that stand in a file of definitions or lemmas and come from the kit in none of its imports are the repository's own.
-kit = set()
+kit = {"zero-suc", "suc-zero", "suc-suc", "not-nil"}  # the kit's too, but named by their paths (`compare.zero-suc`)
 for path in specs + lemmas + walks:
     for own, name, alias in imports(read(path)):
         if not own:
