@@ -44,4 +44,4 @@ returns c st f n =
     let o : c.args.head.root ≡ suc (c.args.head.root - 1) = omega (arith, c.if-root-eq0.false) in
     grew_beside v c.args.key c.args.value _ f g c.word-next.ensures c.fill.ensures
     right c.key_of.result (omega (arith, c.if-root-eq0.false)) c.key_of.ensures
-    (right_of _ _ (λ q. n _ o (q ∙ c.key_of.ensures _ o ∙ e _ o)) c.if-key-key_of.false) c.new_root-2.ensures
+    (right_of c.args.key c.key_of.result (λ q. n _ o (q ∙ c.key_of.ensures _ o ∙ e _ o)) (omega arith)) c.new_root-2.ensures

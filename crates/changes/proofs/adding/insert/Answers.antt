@@ -4,7 +4,7 @@ use Rattle.heads.specs.declared.head.Head.{Head}
 use Rattle.heads.proofs.Settle.{small}
 use Rattle.heads.proofs.Heads.{tree_stands}
 use Rattle.lookups.proofs.Present.{is_here, root_at, root_inside}
-use Rattle.changes.proofs.Added.{insert_here, not_here, insert_full, insert_new}
+use Rattle.changes.proofs.Added.{insert_here, not_here, some_free, insert_full, insert_new}
 use Rattle.changes.proofs.adding.insert.Goals as goal
 
 -- The root's words are there.
@@ -36,8 +36,15 @@ grow-g-requires-clause-somehow c =
     rw c.rooted-h.ensures
     (_, not_here v c.args.key c.args.value f (c.bring-m.ensures st.tree (tree_stands f)) c.if-m.false, v)
 
+-- There is a free slot where there is room.
+pub grow-g-requires-clause-free_nonzero : goal.grow-g-requires-clause-free_nonzero
+grow-g-requires-clause-free_nonzero c =
+    let (st, f, o, v) = c.requires.somehow_with in
+    let n : c.args.head.size ≡ st.slots → ⊥ = λ e. omega (arith, ap (λ (h : Head). h.size) c.rooted-h.ensures, e, o) in
+    rw c.rooted-h.ensures (some_free v c.args.key c.args.value f n)
+
 pub returns : goal.returns
 returns c st f o =
-    let n : c.args.head.size ≡ st.slots → ⊥ = λ e. c.if-h-most.false (ap (λ (h : Head). h.size) c.rooted-h.ensures ∙ e ∙ o) in
+    let n : c.args.head.size ≡ st.slots → ⊥ = λ e. omega (arith, ap (λ (h : Head). h.size) c.rooted-h.ensures, e, o) in
     insert_new c.requires.somehow_with.3 c.args.key c.args.value f _ c.grow-g.result c.requires.spells (c.bring-m.ensures st.tree (tree_stands f)) c.if-m.false n
     (rw c.rooted-h.ensures at c.grow-g.ensures)
