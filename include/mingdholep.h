@@ -1,8 +1,8 @@
 /* Mingdholep for C and C++: an ordered map to 32-bit values, in an array of words that the caller owns. There are two editions: keys of 32
    bits (mingdholep_make, mingdholep_run), and keys of 64 bits (mingdholep64_make, mingdholep64_run).
 
-   Each edition is a static library of its own, for x86-64 Linux: `rt staticlib host` proves the first and writes
-   target/staticlib/libhost.a, and `rt staticlib host64` the second, libhost64.a. They need nothing but memset. A program may link both; the
+   Each edition is a static library of its own, for x86-64 Linux: `rt lib` in crates/host proves the first and writes
+   out/libhost.a there, and in crates/host64 the second, out/libhost64.a. They need nothing but memset. A program may link both; the
    names do not clash. docs/RULES.md says exactly what each command does; this file says what a caller has to know.
 
    Slices. The words of a slice are given as the address of the first one and their number (words, not bytes). The words must be there and
