@@ -13,10 +13,10 @@ returns-then-n-gt4095 c =
 
 pub returns-then-a-width : goal.returns-then-a-width
 returns-then-a-width c =
-    let q = made_short c.args.width c.args.n c.args.a.now (omega (arith, c.if-n-eq0.false)) c.if-n-gt4095.false c.if-a-width.true in
+    let q = made_short c.args.width c.args.n c.args.a.now (omega arith) (omega arith) c.if-a-width.true in
     (sym q.0, sym q.1)
 
 pub returns : goal.returns
 returns c =
-    let q = made c.args.width c.args.n c.args.a.now (omega (arith, c.if-n-eq0.false)) c.if-n-gt4095.false c.if-a-width.false in
+    let q = made c.args.width c.args.n c.args.a.now (omega arith) (omega arith) c.if-a-width.false in
     (sym q.0, c.fresh.ensures.0 ∙ sym q.1)
