@@ -1,28 +1,25 @@
-// Reading and writing descriptors that may be non-blocking, as a pipe is that another program made so: a call that would block is tried
-// again after a nap. The naps grow while nothing moves, so that waiting takes little of the processor. Assumes nothing.
+// Reading and writing streams that may be non-blocking, as a pipe is that another program made so: a call that would block is tried again
+// after a nap. The naps grow while nothing moves, so that waiting takes little of the processor. Assumes nothing.
 #![tactic(auto)]
 
-ghost use Rattle.std.specs.Prelude.{length};
-ghost use Rattle.libc.specs.Io.{Moved};
+ghost use Rattle.std.specs.Prelude.{◌≡◌, take, IfOk, OnOk, OnErr};
+ghost use Rattle.std.specs.Io.{ReadsAtMost};
+ghost use Rattle.std.specs.Io.KnownBytes.{Keeps, Appends, Consumes};
 
-use libc::types::timespec;
+use std::io;
+use std::io::{Error, ErrorKind, Read, Write};
+use std::rt::Clock;
+use std::thread;
+use std::time::Duration;
 
 // The first nap and the longest, in nanoseconds.
 const SHORTEST: u32 = 20_000;
 
 const LONGEST: u32 = 5_000_000;
 
-// Waits so many nanoseconds, or less where a signal comes.
-fn nap(nanos: i64) {
-    let asked = timespec {
-        tv_sec: 0,
-        tv_nsec: nanos,
-    };
-    let mut left = timespec {
-        tv_sec: 0,
-        tv_nsec: 0,
-    };
-    libc::nanosleep(&asked, &mut left);
+// Waits so many nanoseconds.
+fn nap(clock: &impl Clock, nanos: u32) {
+    thread::sleep(clock, Duration::from_nanos(u64::from(nanos)));
 }
 
 // The nap that follows one of so many nanoseconds: twice as long, up to the longest.
@@ -35,67 +32,71 @@ fn longer(pause: u32) -> u32 {
 }
 
 // Naps, and returns how long the next nap is to be.
-fn rest(pause: u32) -> u32 {
-    nap(pause as i64);
+fn rest(clock: &impl Clock, pause: u32) -> u32 {
+    nap(clock, pause);
     longer(pause)
 }
 
-// What errno asks for after a call that failed. Returns how long the next nap is to be where the call is to be tried again: at once
-// where a signal interrupted it, after a nap where it would block. Returns 0 where it is not, and errno is then as the call left it.
-fn retry(pause: u32) -> u32 {
-    let error = os::errno();
-    if error == libc::EINTR {
-        return pause;
+// What the error of a call asks for. Returns how long the next nap is to be where the call is to be tried again: at once where a signal
+// interrupted it, after a nap where it would block. Where it is not, the error is the call's.
+fn retry(clock: &impl Clock, error: Error, pause: u32) -> io::Result<u32> {
+    match error.kind() {
+        ErrorKind::Interrupted => Ok(pause),
+        ErrorKind::WouldBlock => Ok(rest(clock, pause)),
+        _ => Err(error),
     }
-    if error == libc::EAGAIN {
-        return rest(pause);
-    }
-    0
 }
 
-// What a write's answer asks for. Returns as retry does: a write that took bytes makes the next nap short again, and one that took none
-// is tried again after a nap.
-fn after_write(put: isize, pause: u32) -> u32 {
+// How long the next nap is to be after a write that took so many bytes: short again where it took any, and where it took none it is tried
+// again after a nap.
+fn after_write(clock: &impl Clock, put: usize, pause: u32) -> u32 {
     if put > 0 {
-        return SHORTEST;
+        SHORTEST
+    } else {
+        rest(clock, pause)
     }
-    if put == 0 {
-        return rest(pause);
-    }
-    retry(pause)
 }
 
-// One read, as libc::read, tried again while it would block or a signal interrupts it. Returns what libc::read does: how many bytes it
-// put at the start of buf, 0 at the end of the input; or -1 where it failed, and then os::errno() says why.
-// A proved loop has to end, and nothing says that the wait does. So the tries are counted down, from a number that no run uses up.
-pub fn read(fd: i32, buf: &mut [u8]) -> isize
-    ensures { Moved (length buf.old) result }
+// A proved loop has to end, and nothing says that the wait does. So the tries are counted, up to a number that no run uses up.
+fn gave_up() -> Error {
+    Error::from(ErrorKind::TimedOut)
+}
+
+// One read, tried again while it would block or a signal interrupts it. Returns what the read does: how many bytes it put at the start of
+// buf, 0 at the end of the input; or why it failed, and then it has taken none of the input.
+pub fn read<C: Clock, R: Read>(clock: &C, from: &mut R, buf: &mut [u8]) -> io::Result<usize>
+    ensures bound { ReadsAtMost result buf.new }
+    ensures ok { IfOk result (λ n. Consumes (R.remaining from.old) (R.remaining from.new) (take n buf.new)) }
+    ensures err { OnErr result (Keeps (R.remaining from.old) (R.remaining from.new)) }
 {
     let mut pause = SHORTEST;
-    let mut tries = u64::MAX;
-    while tries > 0 && pause > 0 {
-        let got = libc::read(fd, buf);
-        if got >= 0 {
-            return got;
+    for _ in 0..u64::MAX {
+        match from.read(buf) {
+            Ok(n) => return Ok(n),
+            Err(error) => pause = retry(clock, error, pause)?,
         }
-        pause = retry(pause);
-        tries -= 1;
     }
-    -1
+    Err(gave_up())
 }
 
-// Writes all of buf, in as many writes as it takes, and returns true; on an empty buf it makes no call. Returns false where a write
-// failed, and then os::errno() says why.
-pub fn write_all(fd: i32, buf: &[u8]) -> bool {
+// Writes all of buf, in as many writes as it takes; on an empty buf it makes no call.
+pub fn write_all<C: Clock, W: Write>(clock: &C, to: &mut W, buf: &[u8]) -> io::Result<()>
+    ensures { OnOk result (Appends (W.contents to.old) (W.contents to.new) buf.now) }
+{
     let mut done = 0;
     let mut pause = SHORTEST;
-    let mut tries = u64::MAX;
-    while tries > 0 && done < buf.len() && pause > 0 {
+    for _ in 0..u64::MAX {
+        if done >= buf.len() {
+            return Ok(());
+        }
         let part = &buf[done..];
-        let put = libc::write(fd, part);
-        done += io::count(put, part);
-        pause = after_write(put, pause);
-        tries -= 1;
+        match to.write(part) {
+            Ok(put) => {
+                done += put;
+                pause = after_write(clock, put, pause);
+            }
+            Err(error) => pause = retry(clock, error, pause)?,
+        }
     }
-    done == buf.len()
+    Err(gave_up())
 }
