@@ -1,18 +1,25 @@
-/* A line program among failures. It is linked with a read, a write, a close and a nanosleep that stand here in place of the C library's:
-   they hand it a fixed input in pieces and take its output in parts, and at one call of the run they fail. So each failure is tried at each
-   call. Says what it did, a line a trial, and ends with 1 where something was wrong. Its words are the program's name and the high word of
-   the keys, which is empty where keys have one word. */
+/* A line program among failures. A program that loads this before the C library gets the read, write and nanosleep that stand here, and what
+   it calls to see its output kept: statx, open, fdatasync and close. They hand it a fixed input in pieces and take its output in parts, and at
+   one call of the run they fail. Its main is run again and again, so that each failure is tried at each call. Says what it did, a line a
+   trial, and ends with 1 where something was wrong. The program's words are its name and the high word of the keys, which is empty where keys
+   have one word. */
 /* The kit's compiler brings no header files, so what is used of the C library is declared here, as it is on x86-64. */
 typedef unsigned long size_t;
 typedef long ssize_t;
 int printf(const char *, ...);
 int memcmp(const void *, const void *, size_t);
 void *memcpy(void *, const void *, size_t);
+void *memset(void *, int, size_t);
+int strcmp(const char *, const char *);
 size_t strlen(const char *);
 int *__errno_location(void);
-enum { EINTR = 4, EIO = 5, EBADF = 9, EAGAIN = 11, ENOSPC = 28, EPIPE = 32 };
+void *dlsym(void *, const char *);
+enum { ENOENT = 2, EINTR = 4, EIO = 5, EBADF = 9, EAGAIN = 11, EACCES = 13, EINVAL = 22, ENOSPC = 28, EPIPE = 32 };
 
-int mingdholep_program(void);
+/* The program's main. */
+typedef int Main(int, char **, char **);
+static Main *program;
+static char **environment;
 
 /* Commands, lines that are none, the empty line among them, and a last line without its newline. Where keys have two words, their high
    word stands at '#', and that of a key 0 at '~'. */
@@ -41,10 +48,15 @@ static size_t spread(const char *text, char *to) {
 }
 
 /* How a run goes: the bytes that a read gives and a write takes at most; at which call of read and write something happens, what, and how
-   often in a row; and how the close ends. A fault of 0 is no failure, and a write that takes nothing. */
-static struct { size_t piece, part; int at, fault, times, at_close; } plan;
+   often in a row. A fault of 0 is no failure, and a write that takes nothing. */
+static struct { size_t piece, part; int at, fault, times; } plan;
+/* What the output is: whether a file, what happens where it is asked for that and where it is opened once more, and what at each of so many
+   waits for it. */
+static struct { int is_file, at_stat, at_open, at_wait, waits; } output;
 /* How it went. */
 static struct { int calls, naps, fired, at_end; size_t taken, out, err; } was;
+/* How the program saw to its output: what was asked, opened, waited for and closed, and how much was written when it was waited for. */
+static struct { int stats, opened, waits, closed; size_t out; } seen;
 static char out[MOST], err[MOST];
 
 /* Whether this call fails, with errno set. */
@@ -83,9 +95,45 @@ ssize_t write(int fd, const void *from, size_t length) {
     return (ssize_t)n;
 }
 
+/* Whether a call fails in this way, with errno set. */
+static int fails_with(int fault) {
+    *__errno_location() = fault;
+    return fault != 0;
+}
+
+enum { PIPE = 0010600, FILE_MODE = 0100600, MODE = 28, STATX = 256, FILE_FD = 9 };
+static int is_output(const char *path) { return strcmp(path, "/proc/self/fd/1") == 0; }
+
+int statx(int folder, const char *path, int flags, unsigned mask, void *to) {
+    (void)folder, (void)flags, (void)mask;
+    seen.stats++;
+    if (!is_output(path)) was.fired = -1000;
+    if (fails_with(output.at_stat)) return -1;
+    unsigned short mode = output.is_file ? FILE_MODE : PIPE;
+    memset(to, 0, STATX);
+    memcpy((char *)to + MODE, &mode, sizeof mode);
+    return 0;
+}
+
+int open(const char *path, int flags, ...) {
+    (void)flags;
+    if (!is_output(path)) was.fired = -1000;
+    if (fails_with(output.at_open)) return -1;
+    seen.opened++;
+    return FILE_FD;
+}
+
+int fdatasync(int fd) {
+    if (fd != FILE_FD) was.fired = -1000;
+    seen.waits++;
+    seen.out = was.out;
+    return seen.waits <= output.waits && fails_with(output.at_wait) ? -1 : 0;
+}
+
 int close(int fd) {
-    *__errno_location() = plan.at_close;
-    return fd == 1 && plan.at_close != 0 ? -1 : 0;
+    if (fd != FILE_FD) was.fired = -1000;
+    seen.closed++;
+    return 0;
 }
 
 int nanosleep(const void *asked, void *left) {
@@ -100,7 +148,9 @@ static int run(size_t piece, size_t part, int at, int fault, int times) {
     plan.piece = piece, plan.part = part, plan.at = at, plan.fault = fault, plan.times = times;
     was.calls = was.naps = was.fired = was.at_end = 0;
     was.taken = was.out = was.err = 0;
-    return mingdholep_program();
+    seen.stats = seen.opened = seen.waits = seen.closed = 0;
+    char *words[] = {(char *)name, 0};
+    return program(1, words, environment);
 }
 
 static char whole[MOST];
@@ -163,16 +213,28 @@ static int ends_by_enospc(int status) {
 }
 static int ends_quietly(int status) { return ends(status, "", ""); }
 
-static int closes(int fault, int status, const char *text) {
-    plan.at_close = fault;
+/* The output, asked for as the plan says, is waited for so often, after all of the answers. */
+static int settles(int waits, int status, const char *text) {
     int ended = run(MOST, MOST, 0, 0, 0);
-    plan.at_close = 0;
-    return ended == status && wrote(whole_length) && said(text);
+    int right = seen.stats == 1 && seen.waits == waits && seen.closed == seen.opened && (waits == 0 || seen.out == whole_length);
+    return right && ended == status && wrote(whole_length) && said(text) && was.fired == 0;
+}
+static int settles_file(int fault, int faults, int waits, int status, const char *text) {
+    output.is_file = 1, output.at_wait = fault, output.waits = faults;
+    int right = settles(waits, status, text);
+    output.is_file = output.at_wait = output.waits = 0;
+    return right;
+}
+static int settles_unasked(int at_stat, int at_open) {
+    output.is_file = 1, output.at_stat = at_stat, output.at_open = at_open;
+    int right = settles(0, 0, "");
+    output.is_file = output.at_stat = output.at_open = 0;
+    return right;
 }
 
-int main(int words, char **word) {
+static int trials(int words, char **word, char **own_environment) {
     if (words != 3) return 2;
-    name = word[1], high = word[2];
+    name = word[1], high = word[2], environment = own_environment;
     input_length = spread(asked, input), begins_length = spread(answered, begins), line = 33 + strlen(high);
     int right = run(MOST, MOST, 0, 0, 0) == 0 && was.out == 12 * line && memcmp(out, begins, begins_length) == 0;
     right = right && said("") && was.naps == 0;
@@ -188,6 +250,20 @@ int main(int words, char **word) {
     verdict("each write takes nothing", at_each_call(0, 1, waits) && at_each_call(0, 20, waits));
     verdict("each call fails", at_each_call(EIO, 1, ends_by_eio) && at_each_call(ENOSPC, 1, ends_by_enospc));
     verdict("the reader goes away", at_each_call(EPIPE, 1, ends_quietly));
-    verdict("the close fails", closes(EIO, 1, ": standard output: Input/output error\n") && closes(EBADF, 0, "") && closes(EINTR, 0, ""));
+    verdict("an output that is no file", settles(0, 0, ""));
+    verdict("a file for the output", settles_file(0, 0, 1, 0, "") && settles_file(EINTR, 3, 4, 0, ""));
+    verdict("the file cannot be kept", settles_file(EIO, 1, 1, 1, ": standard output: Input/output error\n") &&
+        settles_file(ENOSPC, 1, 1, 1, ": standard output: No space left on device\n"));
+    verdict("the file cannot be asked", settles_file(EINVAL, 1, 1, 0, "") && settles_unasked(ENOENT, 0) && settles_unasked(0, EACCES));
     return wrong;
+}
+
+/* Called before the program's main, which it is given, in the place of the C library's; and what that one is given. */
+typedef int Start(Main *, int, char **, void (*)(void), void (*)(void), void (*)(void), void *);
+int __libc_start_main(Main *main, int words, char **word, void (*init)(void), void (*fini)(void), void (*unload)(void), void *stack) {
+    Start *start;
+    void *found = dlsym((void *)-1, "__libc_start_main");
+    memcpy(&start, &found, sizeof start);
+    program = main;
+    return start(trials, words, word, init, fini, unload, stack);
 }
