@@ -6,11 +6,10 @@ ghost use Rattle.std.specs.Prelude.{◌≡◌, take, IfOk, OnOk, OnErr};
 ghost use Rattle.std.specs.Io.{ReadsAtMost};
 ghost use Rattle.std.specs.Io.KnownBytes.{Keeps, Appends, Consumes};
 
-use std::io;
 use std::io::{Error, ErrorKind, Read, Write};
 use std::rt::Clock;
-use std::thread;
 use std::time::Duration;
+use std::{io, thread};
 
 // The first nap and the longest, in nanoseconds.
 const SHORTEST: u32 = 20_000;

@@ -25,7 +25,7 @@ fn spell(error: &Error, room: &mut [u8]) -> usize
     all.saturating_sub(rest.len())
 }
 
-// The system's words for the error alone: std puts its number behind them, as in "Is a directory (os error 21)".
+// The system's words for the error alone: std puts its number behind them, as in `Is a directory (os error 21)`.
 fn without_number(said: &str) -> &str {
     match said.split_once(" (os error ") {
         Some((words, _)) => words,
