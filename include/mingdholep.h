@@ -19,7 +19,7 @@
    refused as DAMAGED, and never a fault, but where the words happen to be well formed there too, the run is done on what they say there.
    So keep the two apart.
 
-   Stack. As compiled by the kit, a run takes up to 16,608 bytes of stack, whatever the arena and the list, and a making takes 8. In a
+   Stack. As an older kit compiled it, a run takes up to 16,608 bytes of stack, whatever the arena and the list, and a making takes 8. In a
    program that is linked lazily the first run takes up to 19,704, because the loader looks up memset on the same stack. So a thread of the
    smallest size, PTHREAD_STACK_MIN (16 KiB), is too small. Of the sizes tried 20 KiB was too small and 24 KiB was enough; 64 KiB is safe.
 

@@ -65,7 +65,7 @@ pub fn run_all(a: &mut [u32], width: usize, keys: bool, list: &[u32], answers: &
 {
     let mut rest = list;
     let mut at = 0;
-    while 0 < rest.len() {
+    'rest: while 0 < rest.len() {
         step(a, width, keys, rest, &mut answers[at..]);
         rest = &rest[2 + width..];
         at += 3 + width;

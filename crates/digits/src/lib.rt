@@ -12,7 +12,7 @@ mod tables;
 use tables::{BAD, BYTES, DIGITS};
 
 // Eight digits: the number that they spell, or that one of them is none.
-#[derive(Drop)]
+#[derive(Clone, Copy)]
 pub enum Word {
     Number(u32),
     Bad,

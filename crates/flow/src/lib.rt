@@ -21,7 +21,7 @@ use line::{Line, NEWLINE, answer_bytes, command_bytes, read_with, write_answer};
 
 // The bytes of a line that is not ended, of which the longest command has 32. A line of more bytes than a command has is bad whatever it
 // holds, so that it is too long, len one more than a command's, is all that is kept of it.
-#[derive(Drop)]
+#[derive(Clone, Copy)]
 pub struct Pending {
     pub bytes: [u8; 32],
     pub len: usize,
@@ -29,7 +29,7 @@ pub struct Pending {
 
 // What a call did: how many bytes of its input it took, how many it wrote, and the line that is not ended now. Where the arena is not
 // well formed, ok is false and nothing has changed.
-#[derive(Drop)]
+#[derive(Clone, Copy)]
 pub struct Fed {
     pub ok: bool,
     pub pending: Pending,

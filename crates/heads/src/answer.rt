@@ -7,7 +7,7 @@ ghost use Rattle.node.specs.Stands.{Inside};
 use node::{key_of, word};
 
 // An answer: "a code, a key, a value and the count". The key is a number here; how many words it takes is the edition's affair.
-#[derive(Drop)]
+#[derive(Clone, Copy)]
 pub struct Answer {
     pub code: u32,
     pub key: u64,

@@ -4,14 +4,14 @@ ghost use Rattle.std.specs.Prelude.{◌≡◌};
 use crate::answer::Answer;
 
 // The link to the root, the number of entries, and the link to the first free slot.
-#[derive(Drop)]
+#[derive(Clone, Copy)]
 pub struct Head {
     pub root: u32,
     pub size: u32,
     pub free: u32,
 }
 
-#[derive(Drop)]
+#[derive(Clone, Copy)]
 pub struct Done {
     pub answer: Answer,
     pub head: Head,

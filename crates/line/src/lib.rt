@@ -17,14 +17,14 @@ use digits::{Word, byte_table, digit_table, read_word, spell_word};
 pub const NEWLINE: u8 = 10;
 
 // What a line says: number, key and value of a command, or nothing.
-#[derive(Drop)]
+#[derive(Clone, Copy)]
 pub enum Line {
     Command(u32, u64, u32),
     Bad,
 }
 
 // The digits of a key: the number that they spell, or that one of them is none.
-#[derive(Drop)]
+#[derive(Clone, Copy)]
 enum Key {
     Number(u64),
     Bad,

@@ -12,7 +12,7 @@ pub use digits::digit;
 use line::{read, write_answer};
 
 // What a line says: number, key and value of a command, or nothing.
-#[derive(Drop)]
+#[derive(Clone, Copy)]
 pub enum Line {
     Command(u32, u32, u32),
     Bad,

@@ -13,7 +13,7 @@ use node::{key_of, put};
 use splay::splay;
 
 // What the key meets at the root after the splay: whether it is the root's, the root's link or 0 for no tree, and the comparisons.
-#[derive(Drop)]
+#[derive(Clone, Copy)]
 pub struct Met {
     pub here: bool,
     pub root: u32,

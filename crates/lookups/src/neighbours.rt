@@ -15,7 +15,7 @@ use node::{key_of, word};
 use splay::splay;
 
 // The entry that a walk ended with, by its link or 0 for none, and the nodes that it met.
-#[derive(Drop)]
+#[derive(Clone, Copy)]
 pub struct Sought {
     pub best: u32,
     pub count: usize,

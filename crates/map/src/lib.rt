@@ -11,7 +11,7 @@ ghost use Rattle.calls.specs.Told.{told};
 ghost use Rattle.map.specs.Told.{four};
 
 // "An answer has four words: a code, a key, a value and the count."
-#[derive(Drop)]
+#[derive(Clone, Copy)]
 pub struct Answer {
     pub code: u32,
     pub key: u32,

@@ -10,7 +10,7 @@ ghost use Rattle.members.specs.Asked.{was_of, Asks};
 use calls::one;
 
 // Whether a key was in the set before a call. `Full`: it was not, and there was no room for it. `Refused`: the arena is not well formed.
-#[derive(Drop)]
+#[derive(Clone, Copy)]
 pub enum Was {
     There,
     Absent,

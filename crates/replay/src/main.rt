@@ -256,7 +256,14 @@ fn turn(
     ensures { IfOk result (λ kept. kept.used ≤ 65536) }
 {
     let mut buf = [0u8; 65536];
-    let n = from.read(&mut buf)?;
+    let n = match from.read(&mut buf) {
+        Ok(n) => n,
+        // What was answered before is written all the same.
+        Err(error) => {
+            flush(to, out, k.used)?;
+            return Err(error);
+        }
+    };
     if n == 0 {
         return Ok(Kept {
             len: k.len,

@@ -37,7 +37,7 @@ fn hang(a: &mut [u32], width: usize, top: u32, end: u32, p: usize, x: u32) -> u3
 }
 
 // The root of the splayed tree, and the comparisons made.
-#[derive(Drop)]
+#[derive(Clone, Copy)]
 pub struct Splayed {
     pub root: u32,
     pub count: usize,

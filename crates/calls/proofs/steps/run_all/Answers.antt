@@ -6,29 +6,29 @@ use Rattle.heads.proofs.Settle.{small}
 use Rattle.calls.proofs.Running.{to_end, back, begin, some_left, more, finished}
 use Rattle.calls.proofs.steps.run_all.Goals as goal
 
-pub loop-rest-init : goal.loop-rest-init
-loop-rest-init c =
+pub rest-init : goal.rest-init
+rest-init c =
     let (st, f, h) = c.requires.formed in
     begin _ _ _ _ _ h st f (small c.args.a.now c.type_inv.a) c.requires.room.0 c.requires.room.1
 
 pub step-requires-clause-room : goal.step-requires-clause-room
 step-requires-clause-room c =
-    let at = c.loop-rest.at in
-    let out = c.loop-rest.answers in
-    let left = some_left _ _ _ _ _ c.loop-rest.invariant (omega (arith, c.loop-rest-test.true)) in
+    let at = c.rest.at in
+    let out = c.rest.answers in
+    let left = some_left _ _ _ _ _ c.rest.invariant (omega (arith, c.rest-test.true)) in
     (left.0, rw (to_end at out) (omega (arith, left.1, length-drop at out)))
 
-pub loop-rest-preserved : goal.loop-rest-preserved
-loop-rest-preserved c =
-    let i = c.loop-rest.invariant in
-    let at = c.loop-rest.at in
-    let out = c.loop-rest.answers in
-    let rest = c.loop-rest.rest.now in
+pub rest-preserved : goal.rest-preserved
+rest-preserved c =
+    let i = c.rest.invariant in
+    let at = c.rest.at in
+    let out = c.rest.answers in
+    let rest = c.rest.rest.now in
     let wd = c.args.width in
-    let left = some_left _ _ _ _ _ i (omega (arith, c.loop-rest-test.true)) in
+    let left = some_left _ _ _ _ _ i (omega (arith, c.rest-test.true)) in
     let q = rw (to_end at out) at (c.step.ensures (perform_all (edition wd) _ i.done i.start).state i.formed) in
     rw (to_end (2 + wd) rest, back at out c.step.new.out (omega (arith, left.1)))
-    (more _ _ _ _ _ i c.step.new.a c.step.new.out (omega (arith, c.loop-rest-test.true)) q)
+    (more _ _ _ _ _ i c.step.new.a c.step.new.out (omega (arith, c.rest-test.true)) q)
 
 pub returns : goal.returns
-returns c st f = finished _ _ _ _ _ c.loop-rest.invariant (omega (arith, c.loop-rest-test.false)) st f
+returns c st f = finished _ _ _ _ _ c.rest.invariant (omega (arith, c.rest-test.false)) st f

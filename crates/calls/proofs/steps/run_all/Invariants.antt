@@ -4,8 +4,8 @@ use Rattle.calls.specs.Told.{reading}
 use Rattle.calls.proofs.Running.{Running}
 use Rattle.calls.proofs.steps.run_all.Given as goal
 
-abbrev pub invariant-loop-rest : goal.invariant-loop-rest
-invariant-loop-rest l = Running l.width (reading l.keys) l.list l.fn.a l.fn.answers l.a l.rest l.answers l.at
+abbrev pub invariant-rest : goal.invariant-rest
+invariant-rest l = Running l.width (reading l.keys) l.list l.fn.a l.fn.answers l.a l.rest l.answers l.at
 
-abbrev pub decreases-loop-rest : goal.decreases-loop-rest
-decreases-loop-rest l = length l.rest
+abbrev pub decreases-rest : goal.decreases-rest
+decreases-rest l = length l.rest
