@@ -58,9 +58,13 @@ module _ {K : Type 0} (ed : Edition K) where
   abbrev pub one_refused : List ℕ → Replied
   one_refused w = record { answer = answer_words ed (bare ed DAMAGED 0); arena = w }
 
-  -- A call for one command, "its number, a key and a value", on the arena w gives `given`.
+  -- A call for the command c on the arena w gives `given`.
+  abbrev pub Does : Reading → Command K → List ℕ → Replied → Type 0
+  Does r c w given = Checked w (one_on r c w) (one_refused w) given
+
+  -- The same of a command by "its number, a key and a value".
   abbrev pub One : Reading → ℕ → K → ℕ → List ℕ → Replied → Type 0
-  One r n k v w given = Checked w (one_on r (command n k v) w) (one_refused w) given
+  One r n k v w given = Does r (command n k v) w given
 
   -- So many commands, read off a list of words one after the other.
   unfoldable pub commands : ℕ → List ℕ → List (Command K)
