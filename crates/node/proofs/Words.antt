@@ -1,16 +1,16 @@
 -- The words of an arena as a memory of slots: what reading a word gives, and what storing one changes. The laws are for both widths of a
 -- key; only where two slots must be told apart are the widths taken one by one.
-use mathlib.Core.List.{List, [], ◌∷◌, ◌++◌, append_assoc}
+use mathlib.Core.List.{List}
 use mathlib.Core.Path.{◌≡◌, refl, sym, ap, ◌∙◌, subst}
-use Prim.Native.Nat.{ℕ, zero, suc, ◌+◌, ◌*◌, ◌-◌, ◌/◌, ◌%◌, ◌<◌, ◌≤◌}
-use native.Mathlib.Nat.{mul-le-mul_left, min-eq_left}
+use Prim.Native.Nat.{ℕ, zero, suc, ◌+◌, ◌*◌, ◌-◌, ◌<◌, ◌≤◌}
 use native.Mathlib.Omega.{arith}
-use lib.ListN.{length, get_or, set, take, drop, length-set, length-take}
-use lib.Seq.{get_or-set_same, get_or-set_other, sets, length-sets, sets-eq}
+use lib.ListN.{length, get_or, set, length-set}
+use Rattle.std.proofs.lemmas.Grind.{common_steps}
+use lib.Seq.{get_or-set_same, get_or-set_other, sets}
 use Rattle.rules.specs.Order.{Side, left, right}
-use Rattle.rules.specs.Edition.{edition, word_values, spelled, key_in, Width, Spells}
-use Rattle.rules.specs.Arena.{Slot, place, slot_at}
-use Rattle.rules.proofs.Order.{by_width, edition_lawful}
+use Rattle.rules.specs.Edition.{edition, spelled, key_in, Width}
+use Rattle.rules.specs.Arena.{Slot, slot_at}
+use Rattle.rules.proofs.Order.{by_width}
 use Rattle.node.specs.Stands.{off, Kept, Inside, Filled, Rekeyed}
 use Rattle.node.proofs.Memory.{link_on, with_link, Relinked}
 
@@ -21,9 +21,6 @@ off_low right = omega arith
 -- The slots of the words.
 abbrev pub slots : ℕ → List ℕ → ℕ → Slot ℕ
 slots wd w = slot_at (edition wd) w
-
-pub value_word : (wd : ℕ) (w : List ℕ) (x s : ℕ) → x ≡ suc s → get_or w ((3 + wd) * x + 1) 0 ≡ (slots wd w s).value
-value_word wd w x s e = rw e (ap (λ (i : ℕ). get_or w i 0) (omega arith))
 
 pub link_word : (d : Side) (wd : ℕ) (w : List ℕ) (x s : ℕ) → x ≡ suc s → get_or w ((3 + wd) * x + off d) 0 ≡ link_on d (slots wd w s)
 link_word left wd w x s e = rw e (ap (λ (i : ℕ). get_or w i 0) (omega arith))
@@ -123,10 +120,6 @@ inside_len e h = record { width = h.width; real = h.real; within = rw e h.within
 pub inside_kept : {wd : ℕ} {w w' : List ℕ} {x : ℕ} → Kept w w' → Inside wd w x → Inside wd w' x
 inside_kept k h = inside_len k.len h
 
--- Below a slot that is there, so is every slot.
-pub inside_below : {wd : ℕ} {w : List ℕ} {n x : ℕ} → Inside wd w n → 0 < x → x ≤ n → Inside wd w x
-inside_below {wd} h p q = omega (arith, h.width, mul-le-mul_left (3 + wd) q)
-
 -- No slot's word is the header's.
 kept_store : {w : List ℕ} (p v : ℕ) → 4 ≤ p → Kept w (set w p v)
 kept_store {w} p v b = record { len = length-set w p v; header = λ i h. get_or-set_other w p i v 0 (omega arith) }
@@ -138,70 +131,19 @@ beyond {x = suc s} h p = omega arith
 pub kept_set : {wd : ℕ} {w w' : List ℕ} {x : ℕ} (j v : ℕ) → Inside wd w x → w' ≡ set w ((3 + wd) * x + j) v → Kept w w'
 kept_set {wd} {w} {w'} {x} j v p q = rw q (kept_store ((3 + wd) * x + j) v (omega (arith, beyond p.width p.real)))
 
--- A key read in one word, and in two.
-pub read_one : {wd : ℕ} (w : List ℕ) (i r : ℕ) → wd ≡ 1 → r ≡ get_or w i 0 → get_or w i 0 < word_values → (r ≡ key_in wd w i) × Spells wd r
-read_one w i r o e b = rw o (e, λ q. omega arith)
+-- A key, stored.
+rekeyed_two : (x k : ℕ) (w : List ℕ) → Inside 2 w x → Rekeyed 2 x k w (sets w ((3 + 2) * x + 1 - 2) (spelled 2 k))
+rekeyed_two x k w h = record {
+  kept = grind (arith, common_steps);
+  here = λ s e. slot_same _ _ (grind (arith, common_steps)) (grind (arith, common_steps)) (grind (arith, common_steps)) (grind (arith, common_steps));
+  elsewhere = grind (arith, common_steps);
+}
 
-pub read_two : {wd : ℕ} (w : List ℕ) (i high low : ℕ) → wd ≡ 2 → high ≡ get_or w i 0 → low ≡ get_or w (i + 1) 0
-    → (word_values * high + low ≡ key_in wd w i) × Spells wd (word_values * high + low)
-read_two w i high low o e f = rw o (omega arith, λ q. absurd (omega arith))
-
--- A key stored in two words.
-pub put_two : {wd : ℕ} (w : List ℕ) (i k : ℕ) → wd ≡ 2 → set (set w i (k / word_values)) (i + 1) (k % word_values) ≡ sets w i (spelled wd k)
-put_two w i k o = rw o (ap (λ (j : ℕ). set (set w i (k / word_values)) j (k % word_values)) (omega arith))
-
--- The key of a slot begins so many words before the slot's last three.
-abbrev pub key_place : ℕ → ℕ → ℕ
-key_place wd x = (3 + wd) * x + 1 - wd
-
-key_begins : {wd : ℕ} → Width wd → (s : ℕ) → key_place wd (suc s) ≡ place (edition wd) s
-key_begins {wd} h s = omega (arith, h)
-
-pub key_inside : {wd x : ℕ} {w : List ℕ} → Inside wd w x → key_place wd x + wd ≤ length w
-key_inside {x = zero} h = absurd (omega (arith, h.real))
-key_inside {wd} {x = suc t} h = omega (arith, key_begins h.width t, h.within)
-
-pub key_read : {wd x r : ℕ} (w : List ℕ) → Width wd → r ≡ key_in wd w (key_place wd x) → (s : ℕ) → x ≡ suc s → r ≡ (slots wd w s).key
-key_read {wd} w h q s e = q ∙ ap (λ (y : ℕ). key_in wd w (key_place wd y)) e ∙ ap (key_in wd w) (key_begins h s)
-
--- The key, stored.
-rekeyed : {wd : ℕ} → Width wd → (w w' : List ℕ) (t k : ℕ) → length w' ≡ length w → key_in wd w' (4 + (3 + wd) * t) ≡ k
-    → ((i : ℕ) → (4 + (3 + wd) * t ≤ i → i < 4 + (3 + wd) * t + wd → ⊥) → get_or w' i 0 ≡ get_or w i 0) → Rekeyed wd (suc t) k w w'
-rekeyed h w w' t k len key same =
-    record {
-      kept = record { len = len; header = λ i b. same i (λ p q. omega arith) };
-      here = λ s e.
-          (let e' : s ≡ t = omega arith in
-          rw e' (slot_same _ _ key (same _ (λ p q. omega arith)) (same _ (λ p q. omega arith)) (same _ (λ p q. omega arith))));
-      elsewhere = λ s n. words_same w w' s (λ i o. same i (λ p q. n (ap suc (one_slot h t s i (omega arith) o))));
-    }
-
--- Words outside those stored stay.
-stored_other : (w vs : List ℕ) (p i : ℕ) → (p ≤ i → i < p + length vs → ⊥) → get_or (sets w p vs) i 0 ≡ get_or w i 0
-stored_other w [] p i n = refl
-stored_other w (v ∷ vs) p i n =
-    stored_other (set w p v) vs (suc p) i (λ a b. n (omega arith) (omega arith)) ∙ get_or-set_other w p i v 0 (λ e. n (omega arith) (omega arith))
-
--- A key that was stored is read again.
-stored_key : {wd : ℕ} → Width wd → (w : List ℕ) (p k : ℕ) → p + wd ≤ length w → key_in wd (sets w p (spelled wd k)) p ≡ k
-stored_key {wd} h w p k b =
-    let laws = edition_lawful h in
-    let n : length (spelled wd k) ≡ wd = laws.spell_length k in
-    let m : length (take p w) ≡ p = length-take p w ∙ min-eq_left (omega arith) in
-    let e : sets w p (spelled wd k) ≡ take p w ++ (spelled wd k ++ drop (p + length (spelled wd k)) w)
-    = sets-eq (spelled wd k) w p (omega arith) ∙ append_assoc (take p w) (spelled wd k) _ in
-    rw e (ap (key_in wd (take p w ++ (spelled wd k ++ drop (p + length (spelled wd k)) w))) (sym m) ∙ laws.reread (take p w) k _)
-
-pub key_put : {wd : ℕ} (x k : ℕ) (w : List ℕ) {w' : List ℕ} → Inside wd w x → w' ≡ sets w (key_place wd x) (spelled wd k) → Rekeyed wd x k w w'
-key_put zero k w h q = absurd (omega (arith, h.real))
-key_put {wd} (suc t) k w h q =
-    let n : length (spelled wd k) ≡ wd = (edition_lawful h.width).spell_length k in
-    let p : ℕ = place (edition wd) t in
-    let o : key_place wd (suc t) ≡ p = key_begins h.width t in
-    let b : p + wd ≤ length w = omega (arith, key_inside h) in
-    rw (q, o)
-    (rekeyed h.width w (sets w p (spelled wd k)) t k (length-sets w p (spelled wd k)) (stored_key h.width w p k b)
-    (λ i f. stored_other w (spelled wd k) p i (λ y z. f (omega arith) (omega arith))))
+pub rekeyed : {wd : ℕ} (x k : ℕ) (w : List ℕ) → Inside wd w x → Rekeyed wd x k w (sets w ((3 + wd) * x + 1 - wd) (spelled wd k))
+rekeyed {wd = zero} x k w h = absurd (omega (arith, h.width))
+rekeyed {wd = suc zero} x k w h = grind (arith, common_steps)
+rekeyed {wd = suc (suc zero)} x k w h = rekeyed_two x k w h
+rekeyed {wd = suc (suc (suc n))} x k w h = absurd (omega (arith, h.width))
 
 -- A slot's words, stored one by one.
 pub fills : {wd : ℕ} (x k v l r : ℕ) (w w₁ w₂ w₃ : List ℕ) {w₄ : List ℕ} → Inside wd w x

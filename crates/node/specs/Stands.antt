@@ -1,22 +1,21 @@
 -- A tree that stands in an arena's words, and the words that a call may change.
-use Rattle.std.specs.Prelude.{List, ◌≡◌, ℕ, suc, ◌+◌, ◌*◌, ◌≤◌, ◌<◌, eqb, length, get_or}
-use Rattle.rules.specs.Order.{Side, left, right, other, choose}
+use Rattle.std.specs.Prelude.{List, ◌≡◌, ℕ, suc, ◌+◌, ◌*◌, ◌≤◌, ◌<◌, length, get_or}
+use Rattle.rules.specs.Order.{Side, left, right}
 use Rattle.rules.specs.Edition.{Edition, edition, Width}
 use Rattle.rules.specs.Tree.{Tree, times, link_to}
 use Rattle.rules.specs.Arena.{Slot, Holds, place, slot_at}
+use Rattle.node.specs.declared.side.Side.{Side as Given}
+use Rattle.node.specs.declared.side.Side.TheVariants as is
 
--- The word of a slot that holds the link on a side; and the side whose word it is.
+-- The word of a slot that holds the link on a side.
 abbrev pub off : Side → ℕ
 off left = 2
 off right = 3
 
-abbrev pub side_of : ℕ → Side
-side_of p = choose (eqb p 2) left right
-
--- The words p and q of a slot hold its links on a side and on the other.
-pub record Sided (p q : ℕ) : Type 0 where
-  pub near : p ≡ off (side_of p)
-  pub far : q ≡ off (other (side_of p))
+-- A side of the code, as the rules name it.
+abbrev pub side_of : Given → Side
+side_of is.Left = left
+side_of is.Right = right
 
 -- The length and the header are as they were.
 pub record Kept (w w' : List ℕ) : Type 0 where
@@ -36,7 +35,8 @@ module _ {K : Type 0} (ed : Edition K) where
     pub kept : Kept w w'
     pub same : (s : ℕ) → f s ≡ 0 → slot_at ed w' s ≡ slot_at ed w s
 
--- The link x leads to a slot within the words, in an arena of one of the two editions.
+-- The link x leads to a slot within the words, in an arena of one of the two editions. (A clause and no type: a struct for it would keep
+-- the `&mut` to the words, and each function would have to promise that it keeps that same one: a clause in place of a clause.)
 pub record Inside (wd : ℕ) (w : List ℕ) (x : ℕ) : Type 0 where
   pub width : Width wd
   pub real : 0 < x
