@@ -2,6 +2,7 @@
 use mathlib.Core.List.{List, [], ◌∷◌}
 use mathlib.Core.Path.{◌≡◌, refl, ap, ◌∙◌}
 use Prim.Native.Nat.{ℕ, suc, ◌+◌, ◌≤◌}
+use native.Mathlib.Numerals.{add-one}
 use native.Mathlib.Omega.{arith}
 use Rattle.rules.specs.Order.{Side, left, right}
 use Rattle.rules.specs.Tree.{Entry, Tree, none, fork, hang, hit, weigh, link_to}
@@ -89,39 +90,52 @@ module _ {K : Type 0} where
   gather left g o n = record { left_tree = plug right o none; right_tree = plug left g none; count = n }
   gather right g o n = record { left_tree = plug right g none; right_tree = plug left o none; count = n }
 
-  pub gather_tick : (d : Side) (g o : List (Frame K)) (n : ℕ) → tick (gather d g o n) ≡ gather d g o (suc n)
-  gather_tick left g o n = refl
-  gather_tick right g o n = refl
+  pub gather_tick : (d : Side) (g o : List (Frame K)) (n : ℕ) → tick (gather d g o n) ≡ gather d g o (n + 1)
+  gather_tick left g o n = rw add-one
+  gather_tick right g o n = rw add-one
+
+  pub gather_ticks : (d : Side) (g o : List (Frame K)) (n : ℕ) → tick (tick (gather d g o n)) ≡ gather d g o (n + 1 + 1)
+  gather_ticks d g o n = ap tick (gather_tick d g o n) ∙ gather_tick d g o (n + 1)
 
   pub gather_join : (d : Side) (e : Entry K) (far : Tree K) (g o : List (Frame K)) (n : ℕ)
       → join d (fork d e none far) (gather d g o n) ≡ gather d (record { entry = e; far = far } ∷ g) o n
   gather_join left e far g o n = rw (hang_gap left g (fork left e none far))
   gather_join right e far g o n = rw (hang_gap right g (fork right e none far))
 
--- What hanging the link x into the gap of a tree does: r is the tree's top afterwards.
-pub data Hung {K : Type 0} (d : Side) (top end x r : ℕ) (m m' : ℕ → Slot K) : Type 0 where
-  alone : end ≡ 0 → ((i : ℕ) → m' i ≡ m i) → r ≡ x → Hung d top end x r m m'
-  joined : (s : ℕ) → end ≡ suc s → Relinked d s x m m' → r ≡ top → Hung d top end x r m m'
+  -- The path stands in the slots, whatever its gap holds: its top and the link whose word is the gap.
+  pub record Built (d : Side) (m : ℕ → Slot K) (c : List (Frame K)) (top end : ℕ) : Type 0 where
+    pub old : ℕ
+    pub holds : HoldsPath d m c old
+    pub gap_at : end ≡ gap c
+    pub top_at : top ≡ top_link c 0
 
-pub record Filled {K : Type 0} (d : Side) (c : List (Frame K)) (m m' : ℕ → Slot K) (x r : ℕ) : Type 0 where
-  pub holds : HoldsPath d m' c x
-  pub at : r ≡ top_link c x
-  pub same : Same (λ z. times_path z c) m m'
+  pub built_same : {d : Side} {f : ℕ → ℕ} {m m' : ℕ → Slot K} {c : List (Frame K)} {top end : ℕ} → Same f m m' → ((z : ℕ) → 1 ≤ times_path z c → f z ≡ 0)
+      → Built d m c top end → Built d m' c top end
+  built_same {d} {c = c} p q b =
+      record { old = b.old; holds = path_same d p c b.old q b.holds; gap_at = b.gap_at; top_at = b.top_at }
 
-pub fill : {K : Type 0} (d : Side) {m m' : ℕ → Slot K} {p e r : ℕ} (c : List (Frame K)) (y x : ℕ) → HoldsPath d m c y → ((z : ℕ) → times_path z c ≤ 1)
-    → e ≡ gap c → p ≡ top_link c 0 → Hung d p e x r m m' → Filled d c m m' x r
-fill d [] y x h once e₁ e₂ (alone z q a) = record { holds = tt; at = a; same = λ s z. q s }
-fill d [] y x h once e₁ e₂ (joined s z q a) = absurd (omega arith)
-fill d (f ∷ c) y x h once e₁ e₂ (alone z q a) = absurd (omega arith)
-fill d {m} {m'} (f ∷ c) y x h once e₁ e₂ (joined s z q a) =
-    let es : s ≡ f.entry.slot = omega arith in
-    let q' : Relinked d f.entry.slot x m m' = rw es at q in
-    record {
-      holds = (
-        relinked_near f.entry _ _ q' h.0,
-        holds_same (relinked_same q') f.far (λ z o. omega (arith, once z)) h.1,
-        path_same d (relinked_same q') c _ (λ z o. omega (arith, once z)) h.2,
-      );
-      at = a ∙ e₂;
-      same = same_more (λ z o. omega arith) (relinked_same q');
-    }
+  -- What hanging the link x into the gap of a tree does: r is the tree's top afterwards.
+  pub record Hung (d : Side) (top end x r : ℕ) (m m' : ℕ → Slot K) : Type 0 where
+    pub alone : end ≡ 0 → ((i : ℕ) → m' i ≡ m i) × (r ≡ x)
+    pub joined : (s : ℕ) → end ≡ suc s → Relinked d s x m m' × (r ≡ top)
+
+  pub record Filled (d : Side) (c : List (Frame K)) (m m' : ℕ → Slot K) (x r : ℕ) : Type 0 where
+    pub holds : HoldsPath d m' c x
+    pub at : r ≡ top_link c x
+    pub same : Same (λ z. times_path z c) m m'
+
+  pub fill : {d : Side} {m m' : ℕ → Slot K} {top end x r : ℕ} (c : List (Frame K)) → Built d m c top end → ((z : ℕ) → times_path z c ≤ 1)
+      → Hung d top end x r m m' → Filled d c m m' x r
+  fill [] b once u = let (same, at) = u.alone b.gap_at in record { holds = tt; at = at; same = λ s z. same s }
+  fill {d} (f ∷ c) b once u =
+      let (q, at) = u.joined f.entry.slot b.gap_at in
+      let (here, far, up) = b.holds in
+      record {
+        holds = (
+          relinked_near f.entry _ _ q here,
+          holds_same (relinked_same q) f.far (λ z o. omega (arith, once z)) far,
+          path_same d (relinked_same q) c _ (λ z o. omega (arith, once z)) up,
+        );
+        at = at ∙ b.top_at;
+        same = same_more (λ z o. omega arith) (relinked_same q);
+      }

@@ -1,17 +1,17 @@
 -- Trees that stand in words: their subtrees, and a tree with another right subtree hung on its root.
 use mathlib.Core.List.{List}
 use mathlib.Core.Path.{◌≡◌, refl, sym, ap, ◌∙◌, subst}
-use Prim.Native.Nat.{ℕ, zero, suc, ◌+◌, ◌*◌, ◌≤◌, ◌<◌}
+use Prim.Native.Nat.{ℕ, ◌+◌, ◌*◌, ◌≤◌, ◌<◌}
 use native.Mathlib.Omega.{arith}
-use lib.ListN.{length, get_or, set}
+use lib.ListN.{get_or, set}
 use Rattle.rules.specs.Order.{left, right, by_number}
 use Rattle.rules.specs.Edition.{edition, Width}
-use Rattle.rules.specs.Tree.{Entry, Tree, none, node, hit, times, link_to}
+use Rattle.rules.specs.Tree.{Entry, Tree, none, node, times, link_to}
 use Rattle.rules.specs.Splay.{splay, walk}
 use Rattle.rules.specs.Perform.{hung_on}
 use Rattle.rules.proofs.Hit.{hit_same}
 use Rattle.rules.proofs.Splay.{Real, splay_weighs, splay_real}
-use Rattle.node.specs.Stands.{Stands, Kept, Changed, Inside}
+use Rattle.node.specs.Stands.{Stands, Changed, Inside}
 use Rattle.node.proofs.Memory.{real_link, holds_same, same_more, relinked_same, relinked_far}
 use Rattle.node.proofs.Words.{relinked_at, kept_refl, kept_trans, kept_set}
 use Rattle.splay.specs.Moves.{Somewhere, Became, root_gone}
@@ -54,12 +54,16 @@ splay_none : (k : ℕ) → ((splay by_number k none).tree ≡ none) × ((splay b
 unfolding splay walk
 splay_none k = (refl, refl)
 
+-- A tree with a node, somewhere: the words of its root are there.
+pub start_in : {wd : ℕ} {w : List ℕ} {x : ℕ} → Width wd → Somewhere wd w x → Inside wd w x
+start_in v (t, h, p) = root_in t v h p
+
 -- There is no left subtree: the right one is the tree.
-pub gone_right : {wd : ℕ} {w : List ℕ} {x y : ℕ} (k : ℕ) (t : Tree ℕ) → Stands (edition wd) w x t → 0 < x → 0 ≡ get_or w ((3 + wd) * x + 2) 0 → y ≡ get_or w ((3 + wd) * x + 3) 0
-    → Became wd w w y t (root_gone by_number k t).tree × (0 ≡ (root_gone by_number k t).count)
-gone_right k none h p el er = absurd (omega (arith, h.at))
-gone_right k (node e (node c a b) r) h p el er = absurd (omega (arith, left_link e (node c a b) r h 0 el))
-gone_right {wd} {w} {x} {y} k (node e none r) h p el er =
+pub gone_right : {wd : ℕ} {w : List ℕ} {x l y : ℕ} (k : ℕ) {t : Tree ℕ} → l ≡ get_or w ((3 + wd) * x + 2) 0 → l ≡ 0 → y ≡ get_or w ((3 + wd) * x + 3) 0
+    → Stands (edition wd) w x t → Somewhere wd w x → Became wd w w y t (root_gone by_number k t).tree × (0 ≡ (root_gone by_number k t).count)
+gone_right k {t = none} el z er h (u, g, p) = absurd (omega (arith, h.at))
+gone_right k {t = node e (node c a b) r} el z er h (u, g, p) = absurd (omega (arith, left_link e (node c a b) r h _ el))
+gone_right {wd} {w} {x} {y = y} k {t = node e none r} el z er h (u, g, p) =
     let ey : y ≡ link_to r = right_link e none r h y er in
     let et : (root_gone by_number k (node e none r)).tree ≡ r = ap (λ (u : Tree ℕ). hung_on u r) (splay_none k).0 in (
       record {
@@ -70,11 +74,11 @@ gone_right {wd} {w} {x} {y} k (node e none r) h p el er =
     )
 
 -- There is one: it stands, so that it can be splayed.
-pub left_somewhere : {wd : ℕ} {w : List ℕ} {x y : ℕ} (t : Tree ℕ) → Stands (edition wd) w x t → 0 < x → y ≡ get_or w ((3 + wd) * x + 2) 0 → 0 < y → Somewhere wd w y
-left_somewhere none h p e q = absurd (omega (arith, h.at))
-left_somewhere {wd} {w} {x} {y} (node c l r) h p e q =
+pub left_somewhere : {wd : ℕ} {w : List ℕ} {x y : ℕ} → Somewhere wd w x → y ≡ get_or w ((3 + wd) * x + 2) 0 → (y ≡ 0 → ⊥) → Somewhere wd w y
+left_somewhere (none, h, p) e q = absurd (omega (arith, h.at))
+left_somewhere {wd} {w} {x} {y} (node c l r, h, p) e q =
     let ey : y ≡ link_to l = left_link c l r h y e in
-    (l, subst (λ (v : ℕ). Stands (edition wd) w v l) (sym ey) (left_stands c l r h), q)
+    (l, subst (λ (v : ℕ). Stands (edition wd) w v l) (sym ey) (left_stands c l r h), omega arith)
 
 -- What the splay of the left subtree ensures.
 abbrev pub SplayedAt : ℕ → ℕ → List ℕ → ℕ → List ℕ → ℕ → ℕ → Type 0
@@ -98,33 +102,26 @@ hung {wd} {w} {w'} {x} v (node e a b) r h p hr one ew =
           holds_same s r (λ z o. omega (arith, one z)) hr.holds,
         );
         once = λ z. omega (arith, one z);
-        inside = λ z o. by z (times z r) refl (h.inside z) (hr.inside z) k (omega arith);
+        inside = λ z o. grind (arith, h.inside z, hr.inside z, k.len);
       },
       record { kept = k; same = same_more (λ z o. omega arith) s },
     )
-  where
-    by : (z n : ℕ) → times z r ≡ n → (1 ≤ times z (node e a b) → 4 + (3 + wd) * suc z ≤ length w) → (1 ≤ times z r → 4 + (3 + wd) * suc z ≤ length w) → Kept w w'
-        → 1 ≤ hit z e.slot + (times z a + times z r) → 4 + (3 + wd) * suc z ≤ length w'
-    by z zero n f g k o = let q = f (omega arith) in omega (arith, k.len)
-    by z (suc m) n f g k o = let q = g (omega arith) in omega (arith, k.len)
 
-pub top_in : {wd : ℕ} {w w₁ : List ℕ} {x y top n : ℕ} (k : ℕ) → Width wd → (t : Tree ℕ) → Stands (edition wd) w x t → 0 < x → y ≡ get_or w ((3 + wd) * x + 2) 0 → 0 < y
+pub top_in : {wd : ℕ} {w w₁ : List ℕ} {x y top n : ℕ} (k : ℕ) → Width wd → Somewhere wd w x → y ≡ get_or w ((3 + wd) * x + 2) 0 → (y ≡ 0 → ⊥)
     → SplayedAt wd k w y w₁ top n → Inside wd w₁ top
-top_in k v none h p e q f = absurd (omega (arith, h.at))
-top_in {wd} {w} {w₁} {x} {y} {top} k v (node c l r) h p e q f =
-    let ey : y ≡ link_to l = left_link c l r h y e in
-    let b = (f l (subst (λ (v : ℕ). Stands (edition wd) w v l) (sym ey) (left_stands c l r h))).0.stands in
-    by (splay by_number k l).tree (splay_real by_number k l (real_link l (omega arith))) b
+top_in {wd} {w₁ = w₁} {top = top} k v s e q f =
+    let (l, h, p) = left_somewhere s e q in
+    by (splay by_number k l).tree (splay_real by_number k l (real_link l (omega (arith, h.at)))) (f l h).0.stands
   where
     by : (t : Tree ℕ) → Real t → Stands (edition wd) w₁ top t → Inside wd w₁ top
     by none o s = absurd o
     by (node u a b) o s = root_in (node u a b) v s (omega (arith, s.at))
 
-pub gone : {wd : ℕ} {w w₁ w₂ : List ℕ} {x y z top n : ℕ} (k : ℕ) → Width wd → (t : Tree ℕ) → Stands (edition wd) w x t → 0 < x → y ≡ get_or w ((3 + wd) * x + 2) 0 → 0 < y → z ≡ get_or w ((3 + wd) * x + 3) 0
-    → SplayedAt wd k w y w₁ top n → w₂ ≡ set w₁ ((3 + wd) * top + 3) z
+pub gone : {wd : ℕ} {w w₁ w₂ : List ℕ} {x y z top n : ℕ} (k : ℕ) {t : Tree ℕ} → Width wd → y ≡ get_or w ((3 + wd) * x + 2) 0 → (y ≡ 0 → ⊥) → z ≡ get_or w ((3 + wd) * x + 3) 0
+    → SplayedAt wd k w y w₁ top n → w₂ ≡ set w₁ ((3 + wd) * top + 3) z → Stands (edition wd) w x t → Somewhere wd w x
     → Became wd w w₂ top t (root_gone by_number k t).tree × (n ≡ (root_gone by_number k t).count)
-gone k v none h p e q er f ew = absurd (omega (arith, h.at))
-gone {wd} {w} {w₁} {w₂} {x} {y} {z} {top} k v (node c l r) h p e q er f ew =
+gone k {t = none} v e q er f ew h (u, g, p) = absurd (omega (arith, h.at))
+gone {wd} {w} {w₁} {w₂} {x} {y} {z} {top} k {t = node c l r} v e q er f ew h (u, g, p) =
     let ey : y ≡ link_to l = left_link c l r h y e in
     let ez : z ≡ link_to r = right_link c l r h z er in
     let (b, en) = f l (subst (λ (v : ℕ). Stands (edition wd) w v l) (sym ey) (left_stands c l r h)) in

@@ -1,336 +1,269 @@
 -- The steps of the walk in any memory, for either side: from the loop's head to a stop, or over a link to the next turn.
 use mathlib.Core.Bool.{false}
 use mathlib.Core.List.{List, [], ◌∷◌}
-use mathlib.Core.Path.{◌≡◌, refl, sym, ap, ◌∙◌}
+use mathlib.Core.Path.{◌≡◌, refl, sym, ap, ◌∙◌, subst}
 use Prim.Native.Nat.{ℕ, suc, ◌+◌, ◌*◌, ◌≤◌, ◌<◌}
 use native.Mathlib.Omega.{arith}
-use Rattle.rules.specs.Order.{Side, left, right, Order, equal, toward, is_toward}
-use Rattle.rules.specs.Tree.{Entry, Tree, none, node, fork, hit, times, size, link_to}
-use Rattle.rules.specs.Splay.{Splayed, nothing, tick, join, assemble}
+use Rattle.rules.specs.Order.{Side, left, right, other, Order, equal, toward, is_toward}
+use Rattle.rules.specs.Tree.{Entry, Tree, none, node, fork, times, size, link_to}
+use Rattle.rules.specs.Splay.{Gathered, Splayed, nothing, tick, join, assemble}
 use Rattle.rules.specs.Arena.{Slot, Holds}
 use Rattle.rules.proofs.Hit.{hit_same}
 use Rattle.rules.proofs.Splay.{Real, fork_real, weigh_fork, Splays, equal_stop, no_child, rotate_stop, rotate_link, link_fork}
 use Rattle.rules.proofs.Held.{tree_from, tree_from_holds}
-use Rattle.node.proofs.Memory.{on_key, fork_link, held_fork, by_fork, no_link, real_link}
-use Rattle.splay.proofs.Paths.{Frame, gather, gather_tick, gather_join, Hung}
-use Rattle.splay.proofs.Walk.{Shape, InTree, KeyRead, LinkRead, Rotated, counts, shape_lr, shape_rl, node_in, end_in, shape_node, shape_key, shape_near, shape_rotate, shape_link}
+use Rattle.node.proofs.Memory.{on_key, fork_link, times_fork, held_fork, by_fork, no_link, real_link}
+use Rattle.splay.proofs.Paths.{Frame, gather, gather_tick, gather_ticks, gather_join, Hung}
+use Rattle.splay.proofs.Walk.{Shape, InTree, KeyRead, LinkRead, Rotated, counts, flip, end_in, shape_in, shape_key, shape_near, shape_link, shape_rotate}
+
+-- The walk stands at a node with the child `near` on the side d.
+pub record Place {K : Type 0} (d : Side) (t₀ : Tree K) (m₀ m : ℕ → Slot K) (x gtop gend otop oend : ℕ) (near : Tree K) : Type 0 where
+  pub e : Entry K
+  pub far : Tree K
+  pub cg : List (Frame K)
+  pub co : List (Frame K)
+  pub shape : Shape d (other d) t₀ m₀ m x gtop gend otop oend (fork d e near far) cg co
+
+module _ {K : Type 0} {t₀ : Tree K} {m₀ m : ℕ → Slot K} {x gtop gend otop oend : ℕ} {near : Tree K} where
+  abbrev pub place_lr : (p : Place left t₀ m₀ m x gtop gend otop oend near) → Place right t₀ m₀ m x otop oend gtop gend p.far
+  place_lr p = record { e = p.e; far = near; cg = p.co; co = p.cg; shape = flip p.shape }
+
+  abbrev pub place_rl : (p : Place right t₀ m₀ m x gtop gend otop oend near) → Place left t₀ m₀ m x otop oend gtop gend p.far
+  place_rl p = record { e = p.e; far = near; cg = p.co; co = p.cg; shape = flip p.shape }
+
+  module _ {d : Side} (p : Place d t₀ m₀ m x gtop gend otop oend near) where
+    pub place_in : InTree t₀ x
+    place_in = shape_in p.e near p.far p.shape
+
+    -- The tree read off the slots is the tree at the node.
+    pub place_size : (D : ℕ) → size t₀ ≤ D → size (tree_from D m x) ≡ 1 + (size near + size p.far)
+    place_size D h =
+        rw p.shape.at
+        (ap size (tree_from_holds m D (fork d p.e near p.far) p.shape.holds (omega (arith, p.shape.whole (λ e. 1)))) ∙ weigh_fork (λ e. 1) d p.e near p.far)
+
+    -- The child on the side d.
+    pub place_near : {y : ℕ} → LinkRead d m x y → y ≡ link_to near
+    place_near = shape_near p.e near p.far p.shape
+
+    pub end_there : 0 < gend → InTree t₀ gend
+    end_there = end_in p.cg p.shape
 
 module _ {K : Type 0} (cmp : K → K → Order) (key : K) where
   -- At the loop's head: whatever the rules give from here, they give for the first tree.
-  pub record Walking (d : Side) (t₀ : Tree K) (m₀ m : ℕ → Slot K) (x gtop gend otop oend count : ℕ) : Type 0 where
-    pub t : Tree K
-    pub cg : List (Frame K)
-    pub co : List (Frame K)
-    pub real : Real t
-    pub shape : Shape d t₀ m₀ m x gtop gend otop oend t cg co
-    pub goal : (z : Splayed K) → Splays cmp key t (gather d cg co count) z → Splays cmp key t₀ nothing z
-    pub bound : count + 2 * size t ≤ 2 * size t₀
+  pub record Walking (d : Side) (t₀ : Tree K) (m₀ m : ℕ → Slot K) (x gtop gend otop oend count : ℕ) (near : Tree K) : Type 0 where
+    pub at : Place d t₀ m₀ m x gtop gend otop oend near
+    pub goal : (z : Splayed K) → Splays cmp key (fork d at.e near at.far) (gather d at.cg at.co count) z → Splays cmp key t₀ nothing z
+    pub bound : count + 2 * (1 + (size near + size at.far)) ≤ 2 * size t₀
 
   -- At the stop.
   pub record Stopped (d : Side) (t₀ : Tree K) (m₀ m : ℕ → Slot K) (x gtop gend otop oend count : ℕ) : Type 0 where
-    pub t : Tree K
-    pub cg : List (Frame K)
-    pub co : List (Frame K)
-    pub real : Real t
-    pub shape : Shape d t₀ m₀ m x gtop gend otop oend t cg co
-    pub goal : Splays cmp key t₀ nothing (assemble t (gather d cg co count))
-
-  -- Before the link: the node e has a child on the side d, which is the next node and smaller than `most`.
-  pub record Linkable (d : Side) (t₀ : Tree K) (m₀ m : ℕ → Slot K) (x gtop gend otop oend count most : ℕ) : Type 0 where
-    pub e : Entry K
     pub near : Tree K
-    pub far : Tree K
-    pub cg : List (Frame K)
-    pub co : List (Frame K)
-    pub shape : Shape d t₀ m₀ m x gtop gend otop oend (fork d e near far) cg co
-    pub child : Real near
-    pub goal : (z : Splayed K) → Splays cmp key near (gather d (record { entry = e; far = far } ∷ cg) co count) z → Splays cmp key t₀ nothing z
+    pub at : Place d t₀ m₀ m x gtop gend otop oend near
+    pub goal : Splays cmp key t₀ nothing (assemble (fork d at.e near at.far) (gather d at.cg at.co count))
+
+  -- Before the link: the node has a child on the side d, which is the next node and smaller than `most`.
+  pub record Linkable (d : Side) (t₀ : Tree K) (m₀ m : ℕ → Slot K) (x gtop gend otop oend count most : ℕ) : Type 0 where
+    pub near : Tree K
+    pub at : Place d t₀ m₀ m x gtop gend otop oend near
+    pub real : Real near
+    pub goal : (z : Splayed K) → Splays cmp key near (gather d (record { entry = at.e; far = at.far } ∷ at.cg) at.co count) z → Splays cmp key t₀ nothing z
     pub bound : count + 2 * size near ≤ 2 * size t₀
     pub less : size near < most
 
-  -- The loop's head again, with the node taken apart.
-  record Seen (d : Side) (t₀ : Tree K) (m₀ m : ℕ → Slot K) (x gtop gend otop oend count : ℕ) : Type 0 where
-    e : Entry K
-    near : Tree K
-    far : Tree K
-    cg : List (Frame K)
-    co : List (Frame K)
-    shape : Shape d t₀ m₀ m x gtop gend otop oend (fork d e near far) cg co
-    goal : (z : Splayed K) → Splays cmp key (fork d e near far) (gather d cg co count) z → Splays cmp key t₀ nothing z
-    bound : count + 2 * (1 + (size near + size far)) ≤ 2 * size t₀
-
-  size_fork : (d : Side) (e : Entry K) (near far : Tree K) → size (fork d e near far) ≡ 1 + (size near + size far)
-  size_fork d e near far = weigh_fork (λ e. 1) d e near far
-
   module _ {t₀ : Tree K} {m₀ m : ℕ → Slot K} {x gtop gend otop oend count : ℕ} where
-    pub walking_lr : Walking left t₀ m₀ m x gtop gend otop oend count → Walking right t₀ m₀ m x otop oend gtop gend count
-    walking_lr w = record { t = w.t; cg = w.co; co = w.cg; real = w.real; shape = shape_lr w.shape; goal = w.goal; bound = w.bound }
+    pub walking_lr : {near : Tree K} (w : Walking left t₀ m₀ m x gtop gend otop oend count near) → Walking right t₀ m₀ m x otop oend gtop gend count w.at.far
+    walking_lr w = record { at = place_lr w.at; goal = w.goal; bound = omega (arith, w.bound) }
 
-    pub walking_rl : Walking right t₀ m₀ m x gtop gend otop oend count → Walking left t₀ m₀ m x otop oend gtop gend count
-    walking_rl w = record { t = w.t; cg = w.co; co = w.cg; real = w.real; shape = shape_rl w.shape; goal = w.goal; bound = w.bound }
+    pub walking_rl : {near : Tree K} (w : Walking right t₀ m₀ m x gtop gend otop oend count near) → Walking left t₀ m₀ m x otop oend gtop gend count w.at.far
+    walking_rl w = record { at = place_rl w.at; goal = w.goal; bound = omega (arith, w.bound) }
 
     pub stopped_rl : Stopped right t₀ m₀ m x gtop gend otop oend count → Stopped left t₀ m₀ m x otop oend gtop gend count
-    stopped_rl w = record { t = w.t; cg = w.co; co = w.cg; real = w.real; shape = shape_rl w.shape; goal = w.goal }
+    stopped_rl w = record { near = w.at.far; at = place_rl w.at; goal = w.goal }
 
-  module _ {d : Side} {t₀ : Tree K} {m₀ m : ℕ → Slot K} {x gtop gend otop oend count : ℕ} (w : Walking d t₀ m₀ m x gtop gend otop oend count) where
-    -- The node's slot is one of the first tree's, and there are comparisons left.
-    pub walking_in : InTree t₀ x
-    walking_in = node_in w.t w.shape w.real
-
-    some_node : (t : Tree K) → Real t → 1 ≤ size t
-    some_node none h = absurd h
-    some_node (node e l r) h = omega arith
-
-    pub walking_count : count + 2 ≤ 2 * size t₀
-    walking_count = omega (arith, w.bound, some_node w.t w.real)
-
-    -- The tree read off the slots is the tree at the node.
-    pub walking_size : (D : ℕ) → size t₀ ≤ D → size (tree_from D m x) ≡ size w.t
-    walking_size D h =
-        rw w.shape.at (ap size (tree_from_holds m D w.t w.shape.holds (omega (arith, w.shape.whole (λ e. 1)))))
-
-    see : Seen d t₀ m₀ m x gtop gend otop oend count
-    see =
-        by_fork d
-        (λ t. Real t → Shape d t₀ m₀ m x gtop gend otop oend t w.cg w.co
-        → ((z : Splayed K) → Splays cmp key t (gather d w.cg w.co count) z → Splays cmp key t₀ nothing z)
-        → count + 2 * size t ≤ 2 * size t₀ → Seen d t₀ m₀ m x gtop gend otop oend count)
-        (λ r. absurd r)
-        (λ e near far r h g b.
-        record { e = e; near = near; far = far; cg = w.cg; co = w.co; shape = h; goal = g; bound = omega (arith, size_fork d e near far) })
-        w.t w.real w.shape w.goal w.bound
-
-    -- The key lies on the side d of the node, and there is no child: stop.
-    pub stop_none : (k : K) → KeyRead m x k → cmp key k ≡ toward d → LinkRead d m x 0 → (n : ℕ) → n ≡ suc count → Stopped d t₀ m₀ m x gtop gend otop oend n
-    stop_none k rk o rl n en =
-        let s = see in
-        let ek : cmp key s.e.key ≡ toward d = rw (shape_key s.e s.near s.far s.shape k rk) at o in
-        let el : s.near ≡ none = no_link s.near (sym (shape_near s.e s.near s.far s.shape 0 rl)) in
-        let h : Shape d t₀ m₀ m x gtop gend otop oend (fork d s.e none s.far) s.cg s.co = rw el at s.shape in
-        let g : (z : Splayed K) → Splays cmp key (fork d s.e none s.far) (gather d s.cg s.co count) z → Splays cmp key t₀ nothing z = rw el at s.goal in
-        record {
-          t = fork d s.e none s.far;
-          cg = s.cg;
-          co = s.co;
-          real = fork_real d s.e none s.far;
-          shape = h;
-          goal = rw (en, ← gather_tick d s.cg s.co count) (g _ (no_child d s.e s.far (gather d s.cg s.co count) ek));
-        }
-
-    -- The child of the node on the side of the key, if there is one, is in the tree.
-    pub child_in : (y : ℕ) → LinkRead d m x y → 0 < y → InTree t₀ y
-    child_in y rl p =
-        let s = see in
-        let ey = shape_near s.e s.near s.far s.shape y rl in
-        by s.near ey (λ z. omega (arith, weigh_fork (λ e. hit z e.slot) d s.e s.near s.far, counts s.shape z))
-      where
-        by : (near : Tree K) → y ≡ link_to near → ((z : ℕ) → times z near ≤ times z t₀) → InTree t₀ y
-        by none e q = absurd (omega arith)
-        by (node c l r) e q = record { slot = c.slot; is = e; one = omega (arith, q c.slot, hit_same c.slot) }
-
-  -- The key is the node's: stop.
-  pub stop_equal : {t₀ : Tree K} {m₀ m : ℕ → Slot K} {x gtop gend otop oend count : ℕ} → Walking left t₀ m₀ m x gtop gend otop oend count
-      → (k : K) → KeyRead m x k → cmp key k ≡ equal → (n : ℕ) → n ≡ suc count → Stopped left t₀ m₀ m x gtop gend otop oend n
-  stop_equal {count = count} w k rk o n en =
-      let s = see w in
-      let ek : cmp key s.e.key ≡ equal = rw (shape_key s.e s.near s.far s.shape k rk) at o in
-      record {
-        t = node s.e s.near s.far;
-        cg = s.cg;
-        co = s.co;
-        real = tt;
-        shape = s.shape;
-        goal = rw en (s.goal _ (equal_stop s.e s.near s.far (gather left s.cg s.co count) ek));
-      }
-
-  -- The node e and its child c on the side of the key.
-  pub record Seen2 (d : Side) (t₀ : Tree K) (m₀ m : ℕ → Slot K) (x up gtop gend otop oend count : ℕ) : Type 0 where
-    pub e : Entry K
+  -- The child of the node on the side of the key.
+  pub record Child (d : Side) (t₀ : Tree K) (m₀ m : ℕ → Slot K) (x up gtop gend otop oend count : ℕ) : Type 0 where
     pub c : Entry K
     pub near : Tree K
     pub mid : Tree K
-    pub far : Tree K
-    pub cg : List (Frame K)
-    pub co : List (Frame K)
-    pub shape : Shape d t₀ m₀ m x gtop gend otop oend (fork d e (fork d c near mid) far) cg co
-    pub order : cmp key e.key ≡ toward d
     pub is_up : up ≡ suc c.slot
-    pub up_key : (k : K) → KeyRead m up k → k ≡ c.key
-    pub goal : (z : Splayed K) → Splays cmp key (fork d e (fork d c near mid) far) (gather d cg co count) z → Splays cmp key t₀ nothing z
-    pub bound : count + 2 * (1 + ((1 + (size near + size mid)) + size far)) ≤ 2 * size t₀
-    pub total : (D : ℕ) → size t₀ ≤ D → size (tree_from D m x) ≡ 1 + ((1 + (size near + size mid)) + size far)
+    pub walk : Walking d t₀ m₀ m x gtop gend otop oend count (fork d c near mid)
 
-  module _ {d : Side} {t₀ : Tree K} {m₀ m : ℕ → Slot K} {x gtop gend otop oend count : ℕ} where
-    pub see2 : Walking d t₀ m₀ m x gtop gend otop oend count → (k : K) → KeyRead m x k → cmp key k ≡ toward d → (up : ℕ) → LinkRead d m x up → 0 < up
-        → Seen2 d t₀ m₀ m x up gtop gend otop oend count
-    see2 w k rk o up rl p =
-        let s = see w in
-        let ek : cmp key s.e.key ≡ toward d = rw (shape_key s.e s.near s.far s.shape k rk) at o in
-        let ey = shape_near s.e s.near s.far s.shape up rl in
-        by_fork d
-        (λ n. up ≡ link_to n → Shape d t₀ m₀ m x gtop gend otop oend (fork d s.e n s.far) s.cg s.co
-        → ((z : Splayed K) → Splays cmp key (fork d s.e n s.far) (gather d s.cg s.co count) z → Splays cmp key t₀ nothing z)
-        → count + 2 * (1 + (size n + size s.far)) ≤ 2 * size t₀
-        → Seen2 d t₀ m₀ m x up gtop gend otop oend count)
-        (λ e. absurd (omega arith))
-        (λ c near mid e h g b.
-        let eu : up ≡ suc c.slot = e ∙ fork_link d c near mid in
-        let (xs, me, hc, hf) = shape_node s.e (fork d c near mid) s.far h in
-        let mc = (held_fork d m c near mid hc).0 in
+  module _ {d : Side} {t₀ : Tree K} {m₀ m : ℕ → Slot K} {x up gtop gend otop oend count : ℕ} where
+    pub child : {near : Tree K} → Walking d t₀ m₀ m x gtop gend otop oend count near → LinkRead d m x up → (up ≡ 0 → ⊥) → Child d t₀ m₀ m x up gtop gend otop oend count
+    child {near} w rl p =
+        by_fork d (λ n. up ≡ link_to n → Walking d t₀ m₀ m x gtop gend otop oend count n → Child d t₀ m₀ m x up gtop gend otop oend count)
+        (λ q v. absurd (p q))
+        (λ c n mid q v. record { c = c; near = n; mid = mid; is_up = q ∙ fork_link d c n mid; walk = v })
+        near (place_near w.at rl) w
+
+    pub child_in : Child d t₀ m₀ m x up gtop gend otop oend count → InTree t₀ up
+    child_in s =
+        let p = s.walk.at in
         record {
-          e = s.e;
-          c = c;
-          near = near;
-          mid = mid;
-          far = s.far;
-          cg = s.cg;
-          co = s.co;
-          shape = h;
-          order = ek;
-          is_up = eu;
-          up_key = λ k r. r c.slot eu ∙ ap (λ (q : Slot K). q.key) mc ∙ on_key d c (link_to near) (link_to mid);
-          goal = g;
-          bound = omega (arith, size_fork d c near mid);
-          total = λ D b₀.
-              omega (
-                arith,
-                ap (λ (y : ℕ). size (tree_from D m y)) h.at,
-                ap size (tree_from_holds m D (fork d s.e (fork d c near mid) s.far) h.holds (omega (arith, h.whole (λ e. 1)))),
-                size_fork d s.e (fork d c near mid) s.far,
-                size_fork d c near mid,
-              );
-        })
-        s.near ey s.shape s.goal s.bound
-
-    module _ {up : ℕ} (s : Seen2 d t₀ m₀ m x up gtop gend otop oend count) (D : ℕ) (few : size t₀ ≤ D) (n : ℕ) (en : n ≡ suc (suc count)) where
-      ticks : tick (tick (gather d s.cg s.co count)) ≡ gather d s.cg s.co n
-      ticks = ap tick (gather_tick d s.cg s.co count) ∙ gather_tick d s.cg s.co (suc count) ∙ ap (gather d s.cg s.co) (sym en)
-
-      joins : (e : Entry K) (far : Tree K) → join d (fork d e none far) (tick (tick (gather d s.cg s.co count))) ≡ gather d (record { entry = e; far = far } ∷ s.cg) s.co n
-      joins e far = rw ticks (gather_join d e far s.cg s.co n)
-
-      -- The key does not lie on that side of the child: link the node.
-      pub link_plain : (k : K) → KeyRead m up k → is_toward d (cmp key k) ≡ false → Linkable d t₀ m₀ m x gtop gend otop oend n (size (tree_from D m x))
-      link_plain k rk o =
-          let q : is_toward d (cmp key s.c.key) ≡ false = rw (s.up_key k rk) at o in
-          record {
-            e = s.e;
-            near = fork d s.c s.near s.mid;
-            far = s.far;
-            cg = s.cg;
-            co = s.co;
-            shape = s.shape;
-            child = fork_real d s.c s.near s.mid;
-            goal = λ z g.
-                s.goal z
-                (link_fork cmp key d s.e s.c s.near s.mid s.far (gather d s.cg s.co count) z s.order q
-                (rw (joins s.e s.far) g));
-            bound = omega (arith, s.bound, size_fork d s.c s.near s.mid);
-            less = omega (arith, s.total D few, size_fork d s.c s.near s.mid);
-          }
-
-      module _ (k : K) (rk : KeyRead m up k) (o : cmp key k ≡ toward d) (m' : ℕ → Slot K) (r : Rotated d x up m m') where
-        lifted : Shape d t₀ m₀ m' up gtop gend otop oend (fork d s.c s.near (fork d s.e s.mid s.far)) s.cg s.co
-        lifted = shape_rotate s.e s.c s.near s.mid s.far s.shape up s.is_up m' r
-
-        again : cmp key s.c.key ≡ toward d
-        again = rw (s.up_key k rk) at o
-
-        -- The child has risen, and has no child itself: stop.
-        pub stop_risen : LinkRead d m' up 0 → Stopped d t₀ m₀ m' up gtop gend otop oend n
-        stop_risen rl =
-            let y : Tree K = fork d s.e s.mid s.far in
-            let el : s.near ≡ none = no_link s.near (sym (shape_near s.c s.near y lifted 0 rl)) in
-            let g : (z : Splayed K) → Splays cmp key (fork d s.e (fork d s.c none s.mid) s.far) (gather d s.cg s.co count) z → Splays cmp key t₀ nothing z
-            = rw el at s.goal in
-            record {
-              t = fork d s.c none y;
-              cg = s.cg;
-              co = s.co;
-              real = fork_real d s.c none y;
-              shape = rw el at lifted;
-              goal = rw (← ticks) (g _ (rotate_stop d s.e s.c s.mid s.far (gather d s.cg s.co count) s.order again));
-            }
-
-        -- It has one: link it.
-        pub link_risen : (y : ℕ) → LinkRead d m' up y → 0 < y → Linkable d t₀ m₀ m' up gtop gend otop oend n (size (tree_from D m x))
-        link_risen y rl p =
-            let f : Tree K = fork d s.e s.mid s.far in
-            let ey : y ≡ link_to s.near = shape_near s.c s.near f lifted y rl in
-            let child : Real s.near = real_link s.near (omega arith) in
-            record {
-              e = s.c;
-              near = s.near;
-              far = f;
-              cg = s.cg;
-              co = s.co;
-              shape = lifted;
-              child = child;
-              goal = λ z g.
-                  s.goal z
-                  (rotate_link d s.e s.c s.near s.mid s.far (gather d s.cg s.co count) z s.order again child
-                  (rw (joins s.c f) g));
-              bound = omega (arith, s.bound);
-              less = omega (arith, s.total D few);
-            }
-
-  module _ {d : Side} {t₀ : Tree K} {m₀ m : ℕ → Slot K} {x gtop gend otop oend count most : ℕ} (p : Linkable d t₀ m₀ m x gtop gend otop oend count most) where
-    pub linkable_in : InTree t₀ x
-    linkable_in = node_in (fork d p.e p.near p.far) p.shape (fork_real d p.e p.near p.far)
-
-    pub linkable_end : 0 < gend → InTree t₀ gend
-    linkable_end = end_in p.cg p.shape
-
-    -- The link, and on.
-    pub advance : (m' : ℕ → Slot K) (r nx : ℕ) → Hung d gtop gend x r m m' → LinkRead d m' x nx → Walking d t₀ m₀ m' nx r x otop oend count
-    advance m' r nx u rl =
-        record {
-          t = p.near;
-          cg = record { entry = p.e; far = p.far } ∷ p.cg;
-          co = p.co;
-          real = p.child;
-          shape = shape_link p.e p.near p.far p.shape m' r nx u rl;
-          goal = p.goal;
-          bound = p.bound;
+          slot = s.c.slot;
+          is = s.is_up;
+          one =
+              omega (arith, counts p.shape s.c.slot, times_fork d p.e (fork d s.c s.near s.mid) p.far s.c.slot, times_fork d s.c s.near s.mid s.c.slot, hit_same s.c.slot);
         }
 
-    pub advance_less : (D : ℕ) → size t₀ ≤ D → (m' : ℕ → Slot K) (r nx : ℕ) → Hung d gtop gend x r m m' → LinkRead d m' x nx → size (tree_from D m' nx) < most
-    unfolding advance
-    advance_less D few m' r nx u rl = omega (arith, walking_size (advance m' r nx u rl) D few, p.less)
+    -- There is none: stop.
+    pub stop_none : {near : Tree K} {k : K} → Walking d t₀ m₀ m x gtop gend otop oend count near → KeyRead m x k → cmp key k ≡ toward d → LinkRead d m x up → up ≡ 0
+        → Stopped d t₀ m₀ m x gtop gend otop oend (count + 1)
+    stop_none {near} {k} w rk o rl z =
+        by (subst (λ n. Walking d t₀ m₀ m x gtop gend otop oend count n) (no_link near (sym (place_near w.at rl) ∙ z)) w)
+      where
+        by : Walking d t₀ m₀ m x gtop gend otop oend count none → Stopped d t₀ m₀ m x gtop gend otop oend (count + 1)
+        by v =
+            let p = v.at in
+            record {
+              near = none;
+              at = p;
+              goal =
+                  rw (← gather_tick d p.cg p.co count)
+                  (v.goal _ (no_child d p.e p.far (gather d p.cg p.co count) (rw (shape_key p.e none p.far p.shape rk) at o)));
+            }
 
-  module _ {t₀ : Tree K} {m₀ m : ℕ → Slot K} {x gtop gend otop oend count : ℕ} (p : Stopped left t₀ m₀ m x gtop gend otop oend count) where
-    pub stopped_in : InTree t₀ x
-    stopped_in = node_in p.t p.shape p.real
+  -- The key is the node's: stop.
+  pub stop_equal : {t₀ : Tree K} {m₀ m : ℕ → Slot K} {x gtop gend otop oend count : ℕ} {near : Tree K} {k : K} → Walking left t₀ m₀ m x gtop gend otop oend count near
+      → KeyRead m x k → cmp key k ≡ equal → Stopped left t₀ m₀ m x gtop gend otop oend (count + 1)
+  stop_equal {t₀} {count = count} {near} w rk o =
+      let p = w.at in
+      record {
+        near = near;
+        at = p;
+        goal =
+            subst (λ (g : Gathered K). Splays cmp key t₀ nothing (assemble (node p.e near p.far) g)) (gather_tick left p.cg p.co count)
+            (w.goal _ (equal_stop p.e near p.far (gather left p.cg p.co count) (rw (shape_key p.e near p.far p.shape rk) at o)));
+      }
 
-    pub stopped_right_end : 0 < gend → InTree t₀ gend
-    stopped_right_end = end_in p.cg p.shape
+  module _ {d : Side} {t₀ : Tree K} {m₀ m : ℕ → Slot K} {x up gtop gend otop oend count : ℕ} (s : Child d t₀ m₀ m x up gtop gend otop oend count)
+      {k ck : K} (rk : KeyRead m x k) (o : cmp key k ≡ toward d) (rc : KeyRead m up ck) where
+    abbrev p : Place d t₀ m₀ m x gtop gend otop oend (fork d s.c s.near s.mid)
+    p = s.walk.at
 
-    pub stopped_left_end : 0 < oend → InTree t₀ oend
-    stopped_left_end = end_in p.co (shape_lr p.shape)
+    node_order : cmp key p.e.key ≡ toward d
+    node_order = rw (shape_key p.e (fork d s.c s.near s.mid) p.far p.shape rk) at o
+
+    child_key : ck ≡ s.c.key
+    child_key =
+        rc s.c.slot s.is_up
+        ∙ ap (λ (q : Slot K). q.key) (held_fork d m s.c s.near s.mid (held_fork d m p.e (fork d s.c s.near s.mid) p.far p.shape.holds).1).0
+        ∙ on_key d s.c (link_to s.near) (link_to s.mid)
+
+    joins : (n : Entry K) (f : Tree K) → join d (fork d n none f) (tick (tick (gather d p.cg p.co count))) ≡ gather d (record { entry = n; far = f } ∷ p.cg) p.co (count + 1 + 1)
+    joins n f = rw (gather_ticks d p.cg p.co count) (gather_join d n f p.cg p.co (count + 1 + 1))
+
+    -- The key does not lie on that side of the child: link the node.
+    pub link_plain : is_toward d (cmp key ck) ≡ false → (D : ℕ) → size t₀ ≤ D → Linkable d t₀ m₀ m x gtop gend otop oend (count + 1 + 1) (size (tree_from D m x))
+    link_plain q D few =
+        record {
+          near = fork d s.c s.near s.mid;
+          at = p;
+          real = fork_real d s.c s.near s.mid;
+          goal = λ z g.
+              s.walk.goal z
+              (link_fork cmp key d p.e s.c s.near s.mid p.far (gather d p.cg p.co count) z node_order (rw child_key at q) (rw (joins p.e p.far) g));
+          bound = omega (arith, s.walk.bound);
+          less = omega (arith, place_size p D few);
+        }
+
+    module _ (q : cmp key ck ≡ toward d) {m' : ℕ → Slot K} (r : Rotated d x up m m') {y : ℕ} (rl : LinkRead d m' up y) where
+      abbrev risen : Place d t₀ m₀ m' up gtop gend otop oend s.near
+      risen =
+          record {
+            e = s.c;
+            far = fork d p.e s.mid p.far;
+            cg = p.cg;
+            co = p.co;
+            shape = shape_rotate p.e s.c s.near s.mid p.far p.shape s.is_up r;
+          }
+
+      again : cmp key s.c.key ≡ toward d
+      again = rw child_key at q
+
+      -- The child has risen, and has no child itself: stop.
+      pub stop_risen : y ≡ 0 → Stopped d t₀ m₀ m' up gtop gend otop oend (count + 1 + 1)
+      stop_risen z =
+          by (subst (λ n. Walking d t₀ m₀ m x gtop gend otop oend count (fork d s.c n s.mid)) (no_link s.near (sym (place_near risen rl) ∙ z)) s.walk)
+        where
+          by : Walking d t₀ m₀ m x gtop gend otop oend count (fork d s.c none s.mid) → Stopped d t₀ m₀ m' up gtop gend otop oend (count + 1 + 1)
+          by v =
+              let n = v.at in
+              let oe : cmp key n.e.key ≡ toward d = rw (shape_key n.e (fork d s.c none s.mid) n.far n.shape rk) at o in
+              record {
+                near = none;
+                at =
+                    record {
+                      e = s.c;
+                      far = fork d n.e s.mid n.far;
+                      cg = n.cg;
+                      co = n.co;
+                      shape = shape_rotate n.e s.c none s.mid n.far n.shape s.is_up r;
+                    };
+                goal =
+                    rw (← gather_ticks d n.cg n.co count)
+                    (v.goal _ (rotate_stop d n.e s.c s.mid n.far (gather d n.cg n.co count) oe again));
+              }
+
+      -- It has one: link it.
+      pub link_risen : (y ≡ 0 → ⊥) → (D : ℕ) → size t₀ ≤ D → Linkable d t₀ m₀ m' up gtop gend otop oend (count + 1 + 1) (size (tree_from D m x))
+      link_risen n D few =
+          let real : Real s.near = real_link s.near (omega (arith, place_near risen rl)) in
+          record {
+            near = s.near;
+            at = risen;
+            real = real;
+            goal = λ z g.
+                s.walk.goal z
+                (rotate_link d p.e s.c s.near s.mid p.far (gather d p.cg p.co count) z node_order again real (rw (joins s.c (fork d p.e s.mid p.far)) g));
+            bound = omega (arith, s.walk.bound, weigh_fork (λ e. 1) d s.c s.near s.mid);
+            less = omega (arith, place_size p D few, weigh_fork (λ e. 1) d s.c s.near s.mid);
+          }
+
+  module _ {d : Side} {t₀ : Tree K} {m₀ m : ℕ → Slot K} {x gtop gend otop oend count most : ℕ} (p : Linkable d t₀ m₀ m x gtop gend otop oend count most) where
+    abbrev longer : List (Frame K)
+    longer = record { entry = p.at.e; far = p.at.far } ∷ p.at.cg
+
+    -- The link, and on.
+    module _ {m' : ℕ → Slot K} {r nx : ℕ} (u : Hung d gtop gend x r m m') (rl : LinkRead d m' x nx) where
+      pub record Next : Type 0 where
+        pub near : Tree K
+        pub walk : Walking d t₀ m₀ m' nx r x otop oend count near
+        pub less : (D : ℕ) → size t₀ ≤ D → size (tree_from D m' nx) < most
+
+      pub advance : Next
+      advance =
+          by_fork d
+          (λ t. Real t → Shape d (other d) t₀ m₀ m' nx r x otop oend t longer p.at.co
+          → ((z : Splayed K) → Splays cmp key t (gather d longer p.at.co count) z → Splays cmp key t₀ nothing z)
+          → count + 2 * size t ≤ 2 * size t₀ → size t < most → Next)
+          (λ o. absurd o)
+          (λ e near far o h g b l.
+          let n : Place d t₀ m₀ m' nx r x otop oend near = record { e = e; far = far; cg = longer; co = p.at.co; shape = h } in
+          let one = weigh_fork (λ e. 1) d e near far in
+          record { near = near; walk = record { at = n; goal = g; bound = omega (arith, one) }; less = λ D few. omega (arith, one, place_size n D few) })
+          p.near p.real (shape_link p.at.e p.near p.at.far p.at.shape u rl) p.goal p.bound p.less
 
   -- The start.
-  pub begin : {m : ℕ → Slot K} {x : ℕ} (t : Tree K) → x ≡ link_to t → Holds m t → ((z : ℕ) → times z t ≤ 1) → 0 < x → Walking left t m m x 0 0 0 0 0
-  begin t at holds once p =
+  pub begin : {m : ℕ → Slot K} {x : ℕ} (e : Entry K) (l r : Tree K) → x ≡ suc e.slot → Holds m (node e l r) → ((z : ℕ) → times z (node e l r) ≤ 1)
+      → Walking left (node e l r) m m x 0 0 0 0 0 l
+  begin e l r at holds once =
       record {
-        t = t;
-        cg = [];
-        co = [];
-        real = real_link t (omega arith);
-        shape =
+        at =
             record {
-              at = at;
-              holds = holds;
-              yg = 0;
-              yo = 0;
-              hg = tt;
-              ho = tt;
-              g_end = refl;
-              g_top = refl;
-              o_end = refl;
-              o_top = refl;
-              whole = λ f. omega arith;
-              once = once;
-              same = λ s z. refl;
+              e = e;
+              far = r;
+              cg = [];
+              co = [];
+              shape =
+                  record {
+                    at = at;
+                    holds = holds;
+                    near = record { old = 0; holds = tt; gap_at = refl; top_at = refl };
+                    far = record { old = 0; holds = tt; gap_at = refl; top_at = refl };
+                    whole = λ f. omega arith;
+                    once = once;
+                    same = λ s z. refl;
+                  };
             };
         goal = λ z g. g;
         bound = omega arith;

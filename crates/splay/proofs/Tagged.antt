@@ -3,21 +3,21 @@ use mathlib.Core.Bool.{false}
 use mathlib.Core.List.{List}
 use mathlib.Core.Logic.{⊎_elim}
 use mathlib.Core.Path.{◌≡◌, refl, ap, ◌∙◌, subst}
-use Prim.Native.Nat.{ℕ, zero, suc, ◌+◌, ◌*◌, ◌≤◌, ◌<◌}
+use Prim.Native.Nat.{ℕ, ◌+◌, ◌*◌, ◌≤◌, ◌<◌}
 use native.Mathlib.Nat.{eq-zero-or-pos}
 use native.Mathlib.Omega.{arith}
 use lib.ListN.{length, get_or, set}
-use Rattle.rules.specs.Order.{Side, left, right, other, Order, equal, toward, is_toward, by_number}
+use Rattle.rules.specs.Order.{Side, left, right, other, toward, is_toward, by_number}
 use Rattle.rules.specs.Edition.{edition, Width}
 use Rattle.rules.specs.Tree.{Tree, times, size}
-use Rattle.rules.proofs.Order.{order_from, order_says}
+use Rattle.rules.proofs.Order.{order_from}
 use Rattle.rules.proofs.Held.{tree_from, tree_from_holds}
 use Rattle.rules.proofs.Pigeons.{few}
 use Rattle.node.specs.Stands.{off, Stands, Kept, Inside}
 use Rattle.node.proofs.Memory.{Relinked}
 use Rattle.node.proofs.Words.{slots, link_word, relinked_at, kept_refl, kept_trans, inside_kept, kept_set}
 use Rattle.splay.specs.Moves.{rotated}
-use Rattle.splay.proofs.Paths.{Hung, alone, joined}
+use Rattle.splay.proofs.Paths.{Hung}
 use Rattle.splay.proofs.Walk.{InTree, LinkRead, Rotated}
 
 module _ (wd : ℕ) where
@@ -29,11 +29,11 @@ module _ (wd : ℕ) where
   module _ (d : Side) (w w' : List ℕ) (top end x r : ℕ) (f : end ≡ 0 → (w' ≡ w) × (r ≡ x))
       (g : 0 < end → (w' ≡ set w ((3 + wd) * end + off d) x) × (r ≡ top)) (b : 0 < end → Inside wd w end) where
     pub hung_at : Hung d top end x r (slots wd w) (slots wd w')
-    hung_at = by end refl
-      where
-        by : (n : ℕ) → end ≡ n → Hung d top end x r (slots wd w) (slots wd w')
-        by zero e = let (ew, er) = f e in alone e (λ i. ap (λ (u : List ℕ). slots wd u i) ew) er
-        by (suc s) e = let (ew, er) = g (omega arith) in joined s e (relinked_at d w x e (b (omega arith)) ew) er
+    hung_at =
+        record {
+          alone = λ z. (let (ew, er) = f z in (λ i. ap (λ (u : List ℕ). slots wd u i) ew, er));
+          joined = λ s e. (let (ew, er) = g (omega arith) in (relinked_at d w x e (b (omega arith)) ew, er));
+        }
 
     pub hung_kept : Kept w w'
     hung_kept =
@@ -64,21 +64,14 @@ module _ (wd : ℕ) where
 pub right_of : (a b : ℕ) → (a ≡ b → ⊥) → b ≤ a → by_number a b ≡ toward right
 right_of a b n h = order_from (toward right) a b (omega arith)
 
-pub not_left : (a b : ℕ) → b ≤ a → is_toward left (by_number a b) ≡ false
-not_left a b h = by (by_number a b) refl
-  where
-    by : (o : Order) → by_number a b ≡ o → is_toward left o ≡ false
-    by equal e = refl
-    by (toward left) e = absurd (let q = order_says (toward left) a b e in omega arith)
-    by (toward right) e = refl
+-- The key does not lie on the side d of the other.
+abbrev pub Past : Side → ℕ → ℕ → Type 0
+Past left a b = b ≤ a
+Past right a b = a ≤ b
 
-pub not_right : (a b : ℕ) → a ≤ b → is_toward right (by_number a b) ≡ false
-not_right a b h = by (by_number a b) refl
-  where
-    by : (o : Order) → by_number a b ≡ o → is_toward right o ≡ false
-    by equal e = refl
-    by (toward left) e = refl
-    by (toward right) e = absurd (let q = order_says (toward right) a b e in omega arith)
+pub not_toward : (d : Side) (a b : ℕ) → Past d a b → is_toward d (by_number a b) ≡ false
+not_toward left a b h = grind arith
+not_toward right a b h = grind arith
 
 -- A tree that stands has no more nodes than there are words, and is the one that is read off the words.
 module _ {wd : ℕ} {w : List ℕ} {x : ℕ} {t : Tree ℕ} (h : Stands (edition wd) w x t) where

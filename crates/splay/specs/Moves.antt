@@ -11,7 +11,7 @@ use Rattle.node.specs.Stands.{Stands, Changed}
 abbrev pub rotated : ℕ → ℕ → ℕ → List ℕ → ℕ → ℕ → List ℕ
 rotated wd p q w x up = set (set w ((3 + wd) * x + p) (get_or w ((3 + wd) * up + q) 0)) ((3 + wd) * up + q) x
 
--- Some tree with a node stands at the link x.
+-- Some tree with a node stands at the link x. (A clause and no type, as `Inside` is, and for the same reason.)
 abbrev pub Somewhere : ℕ → List ℕ → ℕ → Type 0
 Somewhere wd w x = (t : Tree ℕ) × Stands (edition wd) w x t × (0 < x)
 

@@ -1,147 +1,152 @@
 // The splay in an arena, and the other ways in which a tree changes shape. Every function here may assume that a tree stands where
-// it is told to look, in an arena whose keys take `width` words, one or two. It changes no word outside that tree's slots.
+// it is told to look. It changes no word outside that tree's slots.
 #![tactic(auto)]
 
 ghost use Rattle.std.specs.Prelude.{◌≡◌, ℕ, ◌+◌, ◌*◌, ◌<◌, set};
-ghost use Rattle.rules.specs.Order.{by_number};
-ghost use Rattle.rules.specs.Edition.{edition, Width};
+ghost use Rattle.rules.specs.Order.{by_number, other};
+ghost use Rattle.rules.specs.Edition.{edition};
 ghost use Rattle.rules.specs.Tree.{Tree};
 ghost use Rattle.rules.specs.Splay.{splay};
-ghost use Rattle.node.specs.Stands.{side_of, Sided, Stands, Inside};
+ghost use Rattle.node.specs.Stands.{off, side_of, Stands, Inside};
 ghost use Rattle.splay.specs.Moves.{rotated, Somewhere, Became, end_risen, root_gone};
 
-use node::{key_of, put, word};
+use node::{Key, Side, key_of, link, put_link};
 
-// The child `up` of x, in the word p of x, rises over it; q is the word of the other side.
-fn rotate(a: &mut [u32], width: usize, x: u32, up: u32, p: usize, q: usize)
-    requires { Inside width a.old x × Inside width a.old up × (p < 4) × (q < 4) }
-    ensures { a.new ≡ rotated width p q a.old x up }
+// The child `up` of x on that side rises over it.
+fn rotate<K: Key>(a: &mut [u32], x: u32, up: u32, side: Side)
+    requires { Inside K.WORDS a.old x × Inside K.WORDS a.old up }
+    ensures { a.new ≡ rotated K.WORDS (off (side_of side)) (off (other (side_of side))) a.old x up }
 {
-    let mid = word(a, width, up, q);
-    put(a, width, x, p, mid);
-    put(a, width, up, q, x);
+    let mid = link::<K>(a, up, side.other());
+    put_link::<K>(a, x, side, mid);
+    put_link::<K>(a, up, side.other(), x);
 }
 
-// x joins the tree at `top`: it goes into the word p of the tree's end, or is the tree where there is none. The tree's top comes back.
-fn hang(a: &mut [u32], width: usize, top: u32, end: u32, p: usize, x: u32) -> u32
-    requires inside { 0 < end → Inside width a.old end }
-    requires p_bound { p < 4 }
-    ensures alone { end ≡ 0 → (a.new ≡ a.old) × (result ≡ x) }
-    ensures joined { 0 < end → (a.new ≡ set a.old ((3 + width) * end + p) x) × (result ≡ top) }
-{
-    if end == 0 {
-        return x;
+// A tree under construction: the link to its top, and to the node at its end, where the next one goes; both 0, as every link that leads to
+// nothing, where there is none yet.
+#[derive(Clone, Copy, Debug, PartialEq, Eq)]
+struct Spine {
+    top: u32,
+    end: u32,
+}
+
+impl Spine {
+    // x joins the tree: it becomes the child on that side of the tree's end, or is the tree where there is none. It is the end then.
+    fn hang<K: Key>(self, a: &mut [u32], side: Side, x: u32) -> Spine
+        requires { 0 < self.end → Inside K.WORDS a.old self.end }
+        ensures alone { self.end ≡ 0 → (a.new ≡ a.old) × (result.top ≡ x) }
+        ensures joined { 0 < self.end → (a.new ≡ set a.old ((3 + K.WORDS) * self.end + off (side_of side)) x) × (result.top ≡ self.top) }
+        ensures last { result.end ≡ x }
+    {
+        if self.end == 0 {
+            return Spine { top: x, end: x };
+        }
+        put_link::<K>(a, self.end, side, x);
+        Spine { end: x, ..self }
     }
-    put(a, width, end, p, x);
-    top
 }
 
-// The root of the splayed tree, and the comparisons made.
-#[derive(Clone, Copy)]
+// The root of the splayed tree, by its link, and the comparisons made.
+#[derive(Clone, Copy, Debug, PartialEq, Eq)]
 pub struct Splayed {
     pub root: u32,
     pub count: usize,
 }
 
 // The tree at `start` splayed with the key.
-pub fn splay(a: &mut [u32], width: usize, start: u32, key: u64) -> Splayed
-    requires width { Width width }
-    requires somewhere { Somewhere width a.old start }
-    ensures { (t : Tree ℕ) → Stands (edition width) a.old start t →
-        Became width a.old a.new result.root t (splay by_number key t).tree
-        × (result.count ≡ (splay by_number key t).count) }
+pub fn splay<K: Key>(a: &mut [u32], start: u32, key: K) -> Splayed
+    requires { Somewhere K.WORDS a.old start }
+    ensures { (t : Tree ℕ) → Stands (edition K.WORDS) a.old start t →
+        Became K.WORDS a.old a.new result.root t (splay by_number (K.number key) t).tree
+        × (result.count ≡ (splay by_number (K.number key) t).count) }
 {
+    let key = key.number();
     let mut node = start;
-    let mut ltop: u32 = 0;
-    let mut lend: u32 = 0;
-    let mut rtop: u32 = 0;
-    let mut rend: u32 = 0;
+    let mut left = Spine { top: 0, end: 0 };
+    let mut right = Spine { top: 0, end: 0 };
     let mut count: usize = 0;
     loop {
-        let k = key_of(a, width, node);
+        let k = key_of::<K>(a, node).number();
         count += 1;
         if key == k {
             break;
         }
+        // The two arms are mirror images. Each is written out, since an edit that must fail aims at one of them
+        // (`equal_as_less_at_the_child`, `equal_as_greater_at_the_child`).
         if key < k {
-            let child = word(a, width, node, 2);
+            let child = link::<K>(a, node, Side::Left);
             if child == 0 {
                 break;
             }
-            let ck = key_of(a, width, child);
+            let ck = key_of::<K>(a, child).number();
             count += 1;
             if key < ck {
-                rotate(a, width, node, child, 2, 3);
+                rotate::<K>(a, node, child, Side::Left);
                 node = child;
-                if word(a, width, node, 2) == 0 {
+                if link::<K>(a, node, Side::Left) == 0 {
                     break;
                 }
             }
-            rtop = hang(a, width, rtop, rend, 2, node);
-            rend = node;
-            node = word(a, width, node, 2);
+            right = right.hang::<K>(a, Side::Left, node);
+            node = link::<K>(a, node, Side::Left);
         } else {
-            let child = word(a, width, node, 3);
+            let child = link::<K>(a, node, Side::Right);
             if child == 0 {
                 break;
             }
-            let ck = key_of(a, width, child);
+            let ck = key_of::<K>(a, child).number();
             count += 1;
             if ck < key {
-                rotate(a, width, node, child, 3, 2);
+                rotate::<K>(a, node, child, Side::Right);
                 node = child;
-                if word(a, width, node, 3) == 0 {
+                if link::<K>(a, node, Side::Right) == 0 {
                     break;
                 }
             }
-            ltop = hang(a, width, ltop, lend, 3, node);
-            lend = node;
-            node = word(a, width, node, 3);
+            left = left.hang::<K>(a, Side::Right, node);
+            node = link::<K>(a, node, Side::Right);
         }
     }
-    let l = word(a, width, node, 2);
-    let r = word(a, width, node, 3);
-    ltop = hang(a, width, ltop, lend, 3, l);
-    rtop = hang(a, width, rtop, rend, 2, r);
-    put(a, width, node, 2, ltop);
-    put(a, width, node, 3, rtop);
+    let l = link::<K>(a, node, Side::Left);
+    let r = link::<K>(a, node, Side::Right);
+    left = left.hang::<K>(a, Side::Right, l);
+    right = right.hang::<K>(a, Side::Left, r);
+    put_link::<K>(a, node, Side::Left, left.top);
+    put_link::<K>(a, node, Side::Right, right.top);
     Splayed { root: node, count }
 }
 
 // The tree at `root` without its root: the left subtree splayed with the key, and the right one hung on it.
-pub fn without_root(a: &mut [u32], width: usize, root: u32, key: u64) -> Splayed
-    requires width { Width width }
-    requires somewhere { Somewhere width a.old root }
-    ensures { (t : Tree ℕ) → Stands (edition width) a.old root t →
-        Became width a.old a.new result.root t (root_gone by_number key t).tree
-        × (result.count ≡ (root_gone by_number key t).count) }
+pub fn without_root<K: Key>(a: &mut [u32], root: u32, key: K) -> Splayed
+    requires { Somewhere K.WORDS a.old root }
+    ensures { (t : Tree ℕ) → Stands (edition K.WORDS) a.old root t →
+        Became K.WORDS a.old a.new result.root t (root_gone by_number (K.number key) t).tree
+        × (result.count ≡ (root_gone by_number (K.number key) t).count) }
 {
-    let l = word(a, width, root, 2);
-    let r = word(a, width, root, 3);
+    let l = link::<K>(a, root, Side::Left);
+    let r = link::<K>(a, root, Side::Right);
     if l == 0 {
         return Splayed { root: r, count: 0 };
     }
-    let s = splay(a, width, l, key);
+    let s = splay(a, l, key);
     let top = s.root;
-    put(a, width, top, 3, r);
+    put_link::<K>(a, top, Side::Right, r);
     s
 }
 
-// The end of the tree at `start` on one side, rotated up to the root: the first node where p is 2 and q 3, the last where p is 3 and q 2.
-pub fn raise_end(a: &mut [u32], width: usize, start: u32, p: usize, q: usize) -> u32
-    requires width { Width width }
-    requires somewhere { Somewhere width a.old start }
-    requires sided { Sided p q }
-    ensures { (t : Tree ℕ) → Stands (edition width) a.old start t →
-        Became width a.old a.new result t (end_risen (side_of p) t) }
+// The end of the tree at `start` on that side, rotated up to the root: the first node on the left, the last on the right.
+pub fn raise_end<K: Key>(a: &mut [u32], start: u32, side: Side) -> u32
+    requires { Somewhere K.WORDS a.old start }
+    ensures { (t : Tree ℕ) → Stands (edition K.WORDS) a.old start t →
+        Became K.WORDS a.old a.new result t (end_risen (side_of side) t) }
 {
     let mut cur = start;
     loop {
-        let up = word(a, width, cur, p);
+        let up = link::<K>(a, cur, side);
         if up == 0 {
             break;
         }
-        rotate(a, width, cur, up, p, q);
+        rotate::<K>(a, cur, up, side);
         cur = up;
     }
     cur

@@ -1,10 +1,10 @@
 -- At the loop's head the walk goes on (`Going`). The measure is the size of the tree at the node.
-use Rattle.rules.specs.Order.{left}
 use Rattle.splay.proofs.Turns.{Going, left_at}
 use Rattle.splay.proofs.splay.Given as goal
 
 abbrev pub invariant-loop-k : goal.invariant-loop-k
-invariant-loop-k l = Going l.fn.width l.fn.a l.fn.start l.fn.key left l.a l.node l.rtop l.rend l.ltop l.lend l.count
+invariant-loop-k g l =
+    Going g.K.Key.WORDS l.fn.a l.fn.start l.key l.a l.node l.right.top l.right.end l.left.top l.left.end l.count
 
 abbrev pub decreases-loop-k : goal.decreases-loop-k
-decreases-loop-k l = left_at l.fn.width l.fn.a l.fn.start l.fn.key l.a l.node
+decreases-loop-k g l = left_at g.K.Key.WORDS l.fn.a l.fn.start l.key l.a l.node

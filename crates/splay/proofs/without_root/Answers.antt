@@ -1,28 +1,21 @@
 -- The left subtree is splayed, or there is none.
-use Rattle.std.proofs.Common.{sym, ◌∙◌, arith}
-use Rattle.splay.proofs.Standing.{root_in, gone_right, left_somewhere, top_in, gone}
+use Rattle.splay.proofs.Standing.{start_in, gone_right, left_somewhere, top_in, gone}
 use Rattle.splay.proofs.without_root.Goals as goal
 
-pub word-l-requires : goal.word-l-requires
-word-l-requires c = let (t, h, p) = c.requires.somewhere in (root_in t c.requires.width h p, omega arith)
+pub link-l-requires : goal.link-l-requires
+link-l-requires g c = start_in g.met.K.Key.width c.requires
 
-pub word-r-requires : goal.word-r-requires
-word-r-requires c = let (t, h, p) = c.requires.somewhere in (root_in t c.requires.width h p, omega arith)
+pub link-r-requires : goal.link-r-requires
+link-r-requires g c = start_in g.met.K.Key.width c.requires
 
 pub returns-then-l-eq0 : goal.returns-then-l-eq0
-returns-then-l-eq0 c t h =
-    let (t', h', p) = c.requires.somewhere in
-    gone_right c.args.key t h p (sym c.if-l-eq0.true ∙ c.word-l.ensures) c.word-r.ensures
+returns-then-l-eq0 g c t h = gone_right _ c.link-l.ensures c.if-l-eq0.true c.link-r.ensures h c.requires
 
-pub splay-s-requires-clause-somewhere : goal.splay-s-requires-clause-somewhere
-splay-s-requires-clause-somewhere c = let (t, h, p) = c.requires.somewhere in left_somewhere t h p c.word-l.ensures (omega arith)
+pub splay-s-requires : goal.splay-s-requires
+splay-s-requires g c = search left_somewhere
 
-pub put-requires : goal.put-requires
-put-requires c =
-    let (t, h, p) = c.requires.somewhere in
-    (top_in c.args.key c.requires.width t h p c.word-l.ensures (omega arith) c.splay-s.ensures, omega arith)
+pub put_link-requires : goal.put_link-requires
+put_link-requires g c = top_in _ g.met.K.Key.width c.requires c.link-l.ensures c.if-l-eq0.false c.splay-s.ensures
 
 pub returns : goal.returns
-returns c t h =
-    let (t', h', p) = c.requires.somewhere in
-    gone c.args.key c.requires.width t h p c.word-l.ensures (omega arith) c.word-r.ensures c.splay-s.ensures c.put.ensures
+returns g c t h = gone _ g.met.K.Key.width c.link-l.ensures c.if-l-eq0.false c.link-r.ensures c.splay-s.ensures c.put_link.ensures h c.requires
