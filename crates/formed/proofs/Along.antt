@@ -1,178 +1,93 @@
--- The check's walk over a tree: what is left to be asked at each step. The walk holds that the question it began with and the question
--- that is left have one answer, so where it stops at an answer, that is the answer of the whole.
+-- The walk in the words of an arena, with the links that wait in scratch words: at each step the answer is no, or that of what is left to
+-- be asked.
+use mathlib.Core.Bool.{Bool, false}
 use mathlib.Core.List.{List, [], ◌∷◌}
-use mathlib.Core.Option.{Option, none as nil, some}
-use mathlib.Core.Path.{◌≡◌, refl, ◌∙◌, ap}
-use Prim.Native.Nat.{ℕ, zero, suc, ◌+◌, ◌≤◌, ◌<◌}
-use native.Mathlib.Numerals.{add-one}
+use mathlib.Core.Path.{◌≡◌, refl, ap}
+use Prim.Native.Nat.{ℕ, zero, suc, pred, ◌+◌, ◌-◌, ◌*◌, ◌≤◌, ◌<◌}
+use native.Mathlib.Numerals.{add-one, sub-one}
 use native.Mathlib.Omega.{arith}
+use lib.Dec.{eqb}
 use lib.ListN.{length, get_or, set}
 use lib.Seq.{get_or-set_same, get_or-set_other}
-use Rattle.rules.specs.Edition.{Edition}
-use Rattle.rules.specs.Arena.{Slot, listed}
-use Rattle.rules.proofs.Hit.{hit_same, hit_other}
-use Rattle.formed.proofs.InOrder.{Above, Climbs}
-use Rattle.formed.proofs.Walk.{Walk, done, down, up, walk_down, walk_up, walk_end, waiting_met, waiting_few}
+use Rattle.rules.specs.Order.{left, right, toward}
+use Rattle.rules.specs.Edition.{edition, Width}
+use Rattle.rules.specs.Tree.{Tree}
+use Rattle.rules.specs.Arena.{Slot, slot_at}
+use Rattle.rules.proofs.Order.{edition_lawful, order_from, order_says}
+use Rattle.node.proofs.Words.{link_word}
+use Rattle.formed.specs.Verdict.{Tells, nowhere, TreeStands}
+use Rattle.formed.proofs.Tells.{same_answer, where_equal}
+use Rattle.formed.proofs.Walk.{Rest, down, down_back, must_be, up, must_climb, up_back, all_met, must_be_all, whole_of, tree_of}
 
--- The scratch words below p are the links of the slots that wait, the next of them last.
-pub data Piled (n : ℕ) (work : List ℕ) : ℕ → List ℕ → Type 0 where
-  bottom : Piled n work zero []
-  on : {p s : ℕ} {waiting : List ℕ} → get_or work p 0 ≡ suc s → s < n → Piled n work p waiting → Piled n work (suc p) (s ∷ waiting)
+-- The first p scratch words are the links that wait, the next of them last.
+abbrev pub pile : List ℕ → ℕ → List ℕ
+pile work zero = []
+pile work (suc p) = get_or work p 0 ∷ pile work p
 
-piled_length : {n : ℕ} {work : List ℕ} {p : ℕ} {waiting : List ℕ} → Piled n work p waiting → length waiting ≡ p
-piled_length bottom = refl
-piled_length (on e h q) = ap suc (piled_length q)
+pile_length : (work : List ℕ) (p : ℕ) → length (pile work p) ≡ p
+pile_length work zero = refl
+pile_length work (suc p) = ap suc (pile_length work p)
 
 -- A word stored above them leaves them.
-piled_set : {n : ℕ} {work : List ℕ} {p : ℕ} {waiting : List ℕ} (j v : ℕ) → p ≤ j → Piled n work p waiting → Piled n (set work j v) p waiting
-piled_set j v b bottom = bottom
-piled_set {work = work} j v b (on {p} e h q) = on (get_or-set_other work j p v 0 (omega arith) ∙ e) h (piled_set j v (omega arith) q)
+pile_set : (work : List ℕ) (j v p : ℕ) → p ≤ j → pile (set work j v) p ≡ pile work p
+pile_set work j v zero h = refl
+pile_set work j v (suc p) h = rw (get_or-set_other work j p v 0 (omega arith), pile_set work j v p (omega arith))
 
--- The slot that waits next.
-pub record Next (n : ℕ) (work : List ℕ) (p : ℕ) (waiting : List ℕ) : Type 0 where
-  pub slot : ℕ
-  pub later : List ℕ
-  pub split : waiting ≡ slot ∷ later
-  pub word : get_or work p 0 ≡ suc slot
-  pub low : slot < n
-  pub piled : Piled n work p later
+module _ (wd : ℕ) (w : List ℕ) (n size : ℕ) where
+  abbrev slot : ℕ → Slot ℕ
+  slot = slot_at (edition wd) w
 
-unpiled : {n p : ℕ} {work waiting : List ℕ} → Piled n work (suc p) waiting → Next n work p waiting
-unpiled (on {s = s} {waiting = later} e h q) = record { slot = s; later = later; split = refl; word = e; low = h; piled = q }
+  -- What is left to be asked at the link x, with p links that wait, so many slots met and the last key met.
+  abbrev pub Asked : List ℕ → ℕ → ℕ → ℕ → ℕ → Tree ℕ × List ℕ → Type 0
+  Asked work x p = Rest (edition wd) slot n size x (pile work p)
 
-unpiled_none : {n : ℕ} {work waiting : List ℕ} → Piled n work zero waiting → waiting ≡ []
-unpiled_none bottom = refl
+  pub starts : (root : ℕ) (r : Bool) → Width wd → Tells (Rest (edition wd) slot n size root [] 0 0) r
+      → Tells (TreeStands (edition wd) w n root size) r
+  starts root r h = same_answer (tree_of _ _ _ _ _ _ (edition_lawful h)) (whole_of _ _ _ _ _ _)
 
--- The key that was met last, where one was met.
-abbrev pub before : {K : Type 0} → ℕ → K → Option K
-before zero last = nil
-before (suc count) last = some last
+  module _ (work : List ℕ) where
+    -- At a slot.
+    pub goes_down : (x p count last : ℕ) (r : Bool) → 0 < x → p < length work
+        → Tells (Asked (set work p x) (get_or w ((3 + wd) * x + 2) 0) (p + 1) count last) r → Tells (Asked work x p count last) r
+    goes_down zero p count last r h b t = absurd (omega arith)
+    goes_down (suc s) p count last r h b t =
+        same_answer (down_back _ _ _ _) (down _ _ _ _)
+        (rw (link_word left wd w (suc s) s refl, add-one, get_or-set_same work p (suc s) 0 b, pile_set work p (suc s) p (omega arith)) at t)
 
-module _ {K : Type 0} (ed : Edition K) (m : ℕ → Slot K) (n size : ℕ) where
-  -- What is left to be asked: is there a walk from here that meets slots below n alone, with keys that climb, and as many as are left?
-  pub record Rest (x : ℕ) (waiting : List ℕ) (prior : Option K) (count : ℕ) : Type 0 where
-    pub met : List ℕ
-    pub walk : Walk m x waiting met
-    pub within : (s : ℕ) → n ≤ s → listed s met ≡ 0
-    pub climbs : Climbs ed m prior met
-    pub number : count + length met ≡ size
+    pub stops_down : (x p count last : ℕ) → 0 < x → (x ≤ n → count + p < size → ⊥) → Tells (Asked work x p count last) false
+    stops_down zero p count last h f = absurd (omega arith)
+    stops_down (suc s) p count last h f =
+        nowhere (λ g k. let (low, many) = must_be _ _ _ _ g k in f (omega arith) (omega (arith, pile_length work p)))
 
-  module _ {s count : ℕ} {waiting : List ℕ} {prior : Option K} where
-    rest_down : Rest (suc s) waiting prior count → Rest (m s).left (s ∷ waiting) prior count
-    rest_down r =
-        record { met = r.met; walk = walk_down m r.walk; within = r.within; climbs = r.climbs; number = r.number }
+    -- The next of p links that wait, and its key.
+    abbrev next : ℕ → ℕ
+    next p = get_or work (p - 1) 0
 
-    rest_down_back : Rest (m s).left (s ∷ waiting) prior count → Rest (suc s) waiting prior count
-    rest_down_back r = record { met = r.met; walk = down r.walk; within = r.within; climbs = r.climbs; number = r.number }
+    abbrev next_key : ℕ → ℕ
+    next_key p = (slot (next p - 1)).key
 
-    rest_low : Rest (suc s) waiting prior count → s < n
-    rest_low r =
-        let k : n ≤ s → ⊥ = (λ b. omega (arith, waiting_met m (walk_down m r.walk) s, r.within s b, hit_same s)) in
-        omega arith
+    -- At no slot, where one waits.
+    pub goes_up : (x p count last : ℕ) (r : Bool) → x ≡ 0 → 0 < p → Width wd → 0 < next p → next p ≤ n → (0 < count → last < next_key p)
+        → Tells (Asked work (get_or w ((3 + wd) * next p + 3) 0) (p - 1) (count + 1) (next_key p)) r → Tells (Asked work x p count last) r
+    goes_up x zero count last r e h wide real low climbs t = absurd (omega arith)
+    goes_up x (suc j) count last r e h wide real low climbs t =
+        let q : get_or work j 0 ≡ suc (pred (get_or work j 0)) = omega (arith, simp sub-one at real) in
+        let low : pred (get_or work j 0) < n = omega (arith, simp sub-one at low) in
+        let climbs = λ (b : 0 < count). order_from (toward left) last _ (simp sub-one at (climbs b)) in
+        rw (e, q)
+        (same_answer (up_back _ _ _ _ (edition_lawful wide) low climbs) (up _ _ _ _)
+        (rw (link_word right wd w _ _ q, add-one) at (simp sub-one at t)))
 
-    rest_many : Rest (suc s) waiting prior count → count + length waiting < size
-    rest_many r = omega (arith, waiting_few m (walk_down m r.walk), r.number)
+    pub stops_up : (x p count last : ℕ) → x ≡ 0 → 0 < p → 0 < next p → 0 < count → next_key p ≤ last
+        → Tells (Asked work x p count last) false
+    stops_up x zero count last e h real b k = absurd (omega arith)
+    stops_up x (suc j) count last e h real b k =
+        let q : get_or work j 0 ≡ suc (pred (get_or work j 0)) = omega (arith, simp sub-one at real) in
+        rw (e, q) (nowhere (λ g u. omega (arith, simp sub-one at k, order_says (toward left) last _ (must_climb _ _ _ _ g u b))))
 
-    rest_up : Rest zero (s ∷ waiting) prior count → Above ed prior (m s).key × Rest (m s).right waiting (some (m s).key) (suc count)
-    rest_up r =
-        let (l, e, v) = walk_up m r.walk in
-        let c : Climbs ed m prior (s ∷ l) = rw e at r.climbs in (
-          c.0,
-          record {
-            met = l;
-            walk = v;
-            within = λ z b. omega (arith, r.within z b, ap (λ (i : List ℕ). listed z i) e);
-            climbs = c.1;
-            number = omega (arith, r.number, ap length e);
-          },
-        )
+    -- At no slot, where none waits.
+    pub ends : (x p count last : ℕ) → x ≡ 0 → p ≡ 0 → Tells (Asked work x p count last) (eqb count size)
+    ends x p count last e f = rw (e, f) (where_equal count size (all_met _ _ _ _) (must_be_all _ _ _ _))
 
-    rest_up_back : s < n → Above ed prior (m s).key → Rest (m s).right waiting (some (m s).key) (suc count)
-        → Rest zero (s ∷ waiting) prior count
-    rest_up_back h a r =
-        record {
-          met = s ∷ r.met;
-          walk = up r.walk;
-          within = λ z b. omega (arith, r.within z b, hit_other z s (omega arith));
-          climbs = (a, r.climbs);
-          number = omega (arith, r.number);
-        }
-
-  rest_end : {count : ℕ} {prior : Option K} → Rest zero [] prior count → count ≡ size
-  rest_end r = omega (arith, r.number, ap length (walk_end m r.walk))
-
-  rest_end_back : {count : ℕ} {prior : Option K} → count ≡ size → Rest zero [] prior count
-  rest_end_back e = record { met = []; walk = done; within = λ z b. refl; climbs = tt; number = omega arith }
-
-  -- The question at the root.
-  abbrev pub Whole : ℕ → Type 0
-  Whole root = Rest root [] nil 0
-
-  -- The walk at x, with so many scratch words in use, so many slots met and the last key met.
-  pub record Along (root : ℕ) (work : List ℕ) (x p count : ℕ) (last : K) : Type 0 where
-    pub waiting : List ℕ
-    pub piled : Piled n work p waiting
-    pub room : count + p ≤ size
-    pub onward : Whole root → Rest x waiting (before count last) count
-    pub back : Rest x waiting (before count last) count → Whole root
-
-  pub start : (root : ℕ) (work : List ℕ) (last : K) → Along root work root 0 0 last
-  start root work last = record { waiting = []; piled = bottom; room = omega arith; onward = λ r. r; back = λ r. r }
-
-  module _ {root x p count : ℕ} {work : List ℕ} {last : K} (a : Along root work x p count last) where
-    -- At a slot: it is to be below n, and one more than those that wait are to come; then the walk goes on at its left link.
-    module _ (s : ℕ) (e : x ≡ suc s) where
-      here : Whole root → Rest (suc s) a.waiting (before count last) count
-      here r = rw e at (a.onward r)
-
-      pub must_be_low : Whole root → s < n
-      must_be_low r = rest_low (here r)
-
-      pub must_be_many : Whole root → count + p < size
-      must_be_many r = omega (arith, rest_many (here r), piled_length a.piled)
-
-      pub go_down : (v : ℕ) → v ≡ (m s).left → s < n → count + p < size → p < length work
-          → Along root (set work p x) v (p + 1) count last
-      go_down v q low many inside =
-          rw (q, add-one)
-          record {
-            waiting = s ∷ a.waiting;
-            piled = on (get_or-set_same work p x 0 inside ∙ e) low (piled_set p x (omega arith) a.piled);
-            room = omega arith;
-            onward = λ r. rest_down (here r);
-            back = λ r. a.back (rw e (rest_down_back r));
-          }
-
-    -- At no slot, where one waits: its key is to be above the last; then the walk goes on at its right link.
-    pub next : (j : ℕ) → p ≡ suc j → Next n work j a.waiting
-    next j f = unpiled (rw f at a.piled)
-
-    module _ (e : x ≡ 0) {j : ℕ} (f : p ≡ suc j) (q : Next n work j a.waiting) where
-      there : Whole root → Rest zero (q.slot ∷ q.later) (before count last) count
-      there r = rw (e, q.split) at (a.onward r)
-
-      pub must_climb : Whole root → Above ed (before count last) (m q.slot).key
-      must_climb r = (rest_up (there r)).0
-
-      pub go_up : (v : ℕ) (k : K) → v ≡ (m q.slot).right → k ≡ (m q.slot).key → Above ed (before count last) k
-          → Along root work v j (count + 1) k
-      go_up v k g h above =
-          rw (g, h, add-one)
-          record {
-            waiting = q.later;
-            piled = q.piled;
-            room = omega (arith, a.room);
-            onward = λ r. (rest_up (there r)).1;
-            back = λ r. a.back (rw (e, q.split) (rest_up_back q.low (rw h at above) r));
-          }
-
-    -- At no slot, where none waits: all is met.
-    module _ (e : x ≡ 0) (f : p ≡ 0) where
-      none_waits : a.waiting ≡ []
-      none_waits = unpiled_none (rw f at a.piled)
-
-      pub must_be_all : Whole root → count ≡ size
-      must_be_all r = rest_end (rw (e, none_waits) at (a.onward r))
-
-      pub all_met : count ≡ size → Whole root
-      all_met g = a.back (rw (e, none_waits) (rest_end_back g))
+-- What the check of `tree_stands` is given; at the step to the left `goes_down` is cited.
+pub ruleset steps = (starts, stops_down, goes_up, stops_up, ends)

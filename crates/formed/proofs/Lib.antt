@@ -3,6 +3,5 @@ pub mod Tells
 pub mod InOrder
 pub mod Walk
 pub mod Along
-pub mod Planted
 pub mod Chain
 pub mod Formed

@@ -1,102 +1,127 @@
--- The walk over a tree from left to right, with no words: where it is, the slots that wait for the present subtree to be done, and the
--- slots that it will meet. It meets the slots of a tree that is held, and where it comes to an end there is such a tree.
+-- The walk over a tree from left to right: what is left to be asked at each step, in any memory of slots.
 use mathlib.Core.List.{List, [], ◌∷◌, ◌++◌, append_assoc, append-nil}
-use mathlib.Core.Path.{◌≡◌, refl, ap}
-use Prim.Native.Nat.{ℕ, zero, suc, ◌≤◌}
+use mathlib.Core.Path.{◌≡◌, refl, sym}
+use Prim.Native.Nat.{ℕ, suc, ◌+◌, ◌≤◌, ◌<◌}
 use native.Mathlib.Omega.{arith}
-use lib.ListN.{length}
-use Rattle.rules.specs.Tree.{Tree, none, node, link_to}
-use Rattle.rules.specs.Arena.{Slot, listed, content, Holds}
-use Rattle.formed.proofs.InOrder.{in_order}
+use lib.ListN.{length, length-append}
+use Rattle.rules.specs.Order.{left, toward}
+use Rattle.rules.specs.Edition.{Edition}
+use Rattle.rules.specs.Live.{Before, Ascending}
+use Rattle.rules.specs.Tree.{Tree, none, node, times, link_to}
+use Rattle.rules.specs.Arena.{Slot, listed, Holds, slot_at}
+use Rattle.rules.proofs.Hit.{hit_same, hit_other}
+use Rattle.rules.proofs.Order.{Lawful}
+use Rattle.rules.proofs.Ascending.{before_lies, lies_before, lies_on}
+use Rattle.formed.specs.Verdict.{TreeStands}
+use Rattle.formed.proofs.InOrder.{in_order, listed_append, in_order_times, in_order_size, in_order_entries, pairs, ascending_once}
 
-module _ {K : Type 0} (m : ℕ → Slot K) where
-  -- From the link x, with slots that wait, the next of them first, the walk meets so many slots in this order.
-  pub data Walk : ℕ → List ℕ → List ℕ → Type 0 where
-    done : Walk zero [] []
-    down : {s : ℕ} {waiting met : List ℕ} → Walk (m s).left (s ∷ waiting) met → Walk (suc s) waiting met
-    up : {s : ℕ} {waiting met : List ℕ} → Walk (m s).right waiting met → Walk zero (s ∷ waiting) (s ∷ met)
-
-  pub walk_down : {s : ℕ} {waiting met : List ℕ} → Walk (suc s) waiting met → Walk (m s).left (s ∷ waiting) met
-  walk_down (down v) = v
-
-  pub walk_up : {s : ℕ} {waiting met : List ℕ} → Walk zero (s ∷ waiting) met
-      → (l : List ℕ) × (met ≡ s ∷ l) × Walk (m s).right waiting l
-  walk_up (up {met = l} v) = (l, refl, v)
-
-  pub walk_end : {met : List ℕ} → Walk zero [] met → met ≡ []
-  walk_end done = refl
-
-  -- Every slot that waits is met.
-  pub waiting_met : {x : ℕ} {waiting met : List ℕ} → Walk x waiting met → (s : ℕ) → listed s waiting ≤ listed s met
-  waiting_met done s = omega arith
-  waiting_met (down v) s = omega (arith, waiting_met v s)
-  waiting_met (up v) s = omega (arith, waiting_met v s)
-
-  pub waiting_few : {x : ℕ} {waiting met : List ℕ} → Walk x waiting met → length waiting ≤ length met
-  waiting_few done = omega arith
-  waiting_few (down v) = omega (arith, waiting_few v)
-  waiting_few (up v) = omega (arith, waiting_few v)
-
-  -- A tree that is held is walked, and then what comes after it.
-  pub walk_tree : (t : Tree K) → Holds m t → {waiting met : List ℕ} → Walk zero waiting met → Walk (link_to t) waiting (in_order t ++ met)
-  unfolding in_order
-  walk_tree none h v = v
-  walk_tree (node e l r) h {waiting} {met} v =
-      let v₁ : Walk (m e.slot).right waiting (in_order r ++ met) = rw h.0 (walk_tree r h.2 v) in
-      let v₂ : Walk (m e.slot).left (e.slot ∷ waiting) (in_order l ++ (e.slot ∷ (in_order r ++ met))) =
-      rw h.0 (walk_tree l h.1 (up v₁)) in
-      rw append_assoc (down v₂)
-
-  -- What the slots that wait stand for: each is met, then a tree that is held at its right link.
-  data Pending : List ℕ → List ℕ → Type 0 where
+module _ {K : Type 0} (ed : Edition K) (m : ℕ → Slot K) (n size : ℕ) where
+  -- The links that wait, the next of them first, and the slots that are met for them: its own, then those of the tree that is held at its
+  -- right link, then those of the links after it.
+  pub data Pending : List ℕ → List ℕ → Type 0 where
     nobody : Pending [] []
-    then : {s : ℕ} {waiting met : List ℕ} (r : Tree K) → Holds m r → (m s).right ≡ link_to r → Pending waiting met
-        → Pending (s ∷ waiting) (s ∷ (in_order r ++ met))
+    then : {s : ℕ} {waiting after : List ℕ} (t : Tree K) → (m s).right ≡ link_to t → Holds m t → Pending waiting after
+        → Pending (suc s ∷ waiting) (s ∷ (in_order t ++ after))
 
-  -- A tree is held at x, and what is met is its slots and then what waits.
-  record Grown (x : ℕ) (waiting met : List ℕ) : Type 0 where
-    tree : Tree K
-    at : x ≡ link_to tree
-    holds : Holds m tree
-    after : List ℕ
-    pending : Pending waiting after
-    split : met ≡ in_order tree ++ after
+  -- The slots are below n, their keys ascend and are greater than the last that was met, and they are as many as are left.
+  pub record Meets (count : ℕ) (last : K) (met : List ℕ) : Type 0 where
+    pub within : (s : ℕ) → n ≤ s → listed s met ≡ 0
+    pub above : 0 < count → Before ed last (pairs m met)
+    pub ascending : Ascending ed (pairs m met)
+    pub number : count + length met ≡ size
 
-  joined : {s : ℕ} {waiting met after : List ℕ} (l : Tree K) → (m s).left ≡ link_to l → Holds m l → Pending (s ∷ waiting) after
-      → met ≡ in_order l ++ after → Grown (suc s) waiting met
-  unfolding in_order
-  joined {s} {waiting} {met} l p h (then {met = later} r k q rest) e =
-      record {
-        tree = node (record { slot = s; key = (m s).key; value = (m s).value }) l r;
-        at = refl;
-        holds = (here, h, k);
-        after = later;
-        pending = rest;
-        split = rw append_assoc e;
-      }
-    where
-      here : m s ≡ content (record { slot = s; key = (m s).key; value = (m s).value }) l r
-      here i = record { key = (m s).key; value = (m s).value; left = p i; right = q i }
+  -- What is left to be asked at the link x: a tree that is held there, and what is met for the links that wait.
+  pub data Rest (x : ℕ) (waiting : List ℕ) (count : ℕ) (last : K) : Tree K × List ℕ → Type 0 where
+    rest : {t : Tree K} {after : List ℕ} → x ≡ link_to t → Holds m t → Pending waiting after → Meets count last (in_order t ++ after)
+        → Rest x waiting count last (t, after)
 
-  grown : {x : ℕ} {waiting met : List ℕ} → Walk x waiting met → Grown x waiting met
-  unfolding in_order
-  grown done = record { tree = none; at = refl; holds = tt; after = []; pending = nobody; split = refl }
-  grown (down v) = let g = grown v in joined g.tree g.at g.holds g.pending g.split
-  grown (up {s} {waiting} {met} v) =
-      let g = grown v in
-      record {
-        tree = none;
-        at = refl;
-        holds = tt;
-        after = s ∷ (in_order g.tree ++ g.after);
-        pending = then g.tree g.holds g.at g.pending;
-        split = ap (λ (l : List ℕ). s ∷ l) g.split;
-      }
+  waiting_few : {waiting after : List ℕ} → Pending waiting after → length waiting ≤ length after
+  waiting_few nobody = omega arith
+  waiting_few (then {after = after} t q h p) = omega (arith, waiting_few p, length-append (in_order t) after)
 
-  -- Where nothing waits, what is met is a tree's slots.
-  pub tree_walked : {x : ℕ} {met : List ℕ} → Walk x [] met → (t : Tree K) × (x ≡ link_to t) × Holds m t × (met ≡ in_order t)
-  tree_walked v = let g = grown v in by g.tree g.at g.holds g.pending g.split
-    where
-      by : {x : ℕ} {met after : List ℕ} (t : Tree K) → x ≡ link_to t → Holds m t → Pending [] after → met ≡ in_order t ++ after
-          → (t : Tree K) × (x ≡ link_to t) × Holds m t × (met ≡ in_order t)
-      by t p h nobody e = (t, p, h, simp append-nil at e)
+  module _ {s count : ℕ} {waiting : List ℕ} {last : K} where
+    -- At a node, its left subtree is asked for, with the node among those that wait.
+    pub down : (f : Tree K × List ℕ) → Rest (suc s) waiting count last f
+        → (g : Tree K × List ℕ) × Rest (m s).left (suc s ∷ waiting) count last g
+    unfolding in_order
+    down (none, after) (rest q h p b) = absurd (omega (arith, q))
+    down (node e l r, after) (rest q h p b) =
+        let i : e.slot ≡ s = omega (arith, q) in (
+          (l, s ∷ (in_order r ++ after)),
+          rest (grind arith) h.1 (then r (grind arith) h.2 p) (rw (append_assoc, i) at b),
+        )
+
+    pub down_back : (f : Tree K × List ℕ) → Rest (m s).left (suc s ∷ waiting) count last f
+        → (g : Tree K × List ℕ) × Rest (suc s) waiting count last g
+    unfolding in_order
+    down_back (l, later) (rest q h (then {after = after} r o k p) b) = (
+      (node (record { slot = s; key = (m s).key; value = (m s).value }) l r, after),
+      rest refl (λ i. record { key = (m s).key; value = (m s).value; left = q i; right = o i }, h, k) p (rw append_assoc b),
+    )
+
+    -- The node's link is at most n, and one more is to come than those that wait.
+    pub must_be : (f : Tree K × List ℕ) → Rest (suc s) waiting count last f → (s < n) × (count + length waiting < size)
+    unfolding in_order
+    must_be (none, after) (rest q h p b) = absurd (omega (arith, q))
+    must_be (node e l r, after) (rest q h p b) =
+        grind (arith, b.within e.slot, listed_append, hit_same, length-append {A = ℕ}, waiting_few p)
+
+    -- At no node, the next of those that wait is met, and its right subtree is asked for.
+    pub up : (f : Tree K × List ℕ) → Rest 0 (suc s ∷ waiting) count last f
+        → (g : Tree K × List ℕ) × Rest (m s).right waiting (suc count) (m s).key g
+    unfolding in_order
+    up (none, later) (rest q h (then {after = after} t o k p) b) = (
+      (t, after),
+      rest o k p (grind arith),
+    )
+    up (node e l r, later) (rest q h p b) = absurd (omega (arith, q))
+
+    pub must_climb : (f : Tree K × List ℕ) → Rest 0 (suc s ∷ waiting) count last f → 0 < count → ed.order last (m s).key ≡ toward left
+    unfolding in_order
+    must_climb (none, later) (rest q h (then t o k p) b) j = (b.above j).0
+    must_climb (node e l r, later) (rest q h p b) j = absurd (omega (arith, q))
+
+    pub up_back : Lawful ed → s < n → (0 < count → ed.order last (m s).key ≡ toward left) → (f : Tree K × List ℕ)
+        → Rest (m s).right waiting (suc count) (m s).key f → (g : Tree K × List ℕ) × Rest 0 (suc s ∷ waiting) count last g
+    unfolding in_order
+    up_back laws low climbs (t, after) (rest q h p b) =
+        let ahead : Before ed (m s).key (pairs m (in_order t ++ after)) = b.above (omega arith) in
+        let lower = λ (j : 0 < count). lies_before ed last _ (lies_on ed laws left last _ _ (climbs j) (before_lies ed _ _ ahead)) in (
+          (none, s ∷ (in_order t ++ after)),
+          rest refl tt (then t q h p) (grind (arith, hit_other)),
+        )
+
+  -- At no node, where none waits, all is met.
+  module _ {count : ℕ} {last : K} where
+    pub all_met : count ≡ size → (f : Tree K × List ℕ) × Rest 0 [] count last f
+    unfolding in_order
+    all_met e = (
+      (none, []),
+      rest refl tt nobody (grind arith),
+    )
+
+    pub must_be_all : (f : Tree K × List ℕ) → Rest 0 [] count last f → count ≡ size
+    unfolding in_order
+    must_be_all (none, later) (rest q h nobody b) = omega (arith, b.number)
+    must_be_all (node e l r, later) (rest q h p b) = absurd (omega (arith, q))
+
+-- What is asked at the root is whether a tree stands there.
+module _ {K : Type 0} (ed : Edition K) (w : List ℕ) (n root size : ℕ) (last : K) where
+  abbrev slots : ℕ → Slot K
+  slots = slot_at ed w
+
+  pub whole_of : (t : Tree K) → TreeStands ed w n root size t → (f : Tree K × List ℕ) × Rest ed slots n size root [] 0 last f
+  whole_of t h = (
+    (t, []),
+    rest h.at h.nodes nobody
+        (rw append-nil
+        (grind (arith, in_order_times, in_order_size, in_order_entries slots t h.nodes))),
+  )
+
+  pub tree_of : Lawful ed → (f : Tree K × List ℕ) → Rest ed slots n size root [] 0 last f → (t : Tree K) × TreeStands ed w n root size t
+  tree_of laws (t, later) (rest q h nobody c) =
+      let b = rw append-nil at c in
+      let counted : (s : ℕ) → times s t ≡ listed s (in_order t) = λ s. sym (in_order_times s t) in (
+        t,
+        grind (arith, in_order_size, in_order_entries slots t h, ascending_once ed laws slots (in_order t) b.ascending),
+      )

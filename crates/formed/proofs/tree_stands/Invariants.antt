@@ -1,14 +1,18 @@
--- The walk's question at the root and the one that is left have one answer, and the scratch words in use are the links that wait.
-use Rattle.std.proofs.Common.{◌≡◌, ◌-◌, ◌*◌, length}
+-- The answer to what is left to be asked at x is the answer, and the scratch words in use are links up to n.
+use Rattle.std.proofs.Common.{Bool, ℕ, ◌+◌, ◌-◌, ◌*◌, ◌<◌, ◌≤◌, get_or}
 use Rattle.rules.specs.Edition.{edition}
-use Rattle.rules.specs.Arena.{slot_at}
-use Rattle.formed.proofs.Along.{Along}
+use Rattle.formed.specs.Verdict.{Tells, TreeStands}
+use Rattle.formed.proofs.Along.{Asked}
 use Rattle.formed.proofs.tree_stands.Given as goal
 
 abbrev pub invariant-loop-x : goal.invariant-loop-x
-invariant-loop-x l =
-    Along (edition l.width) (slot_at (edition l.width) l.a) l.n l.size l.root l.work l.x l.waiting l.count l.last
-    × (length l.work ≡ length l.fn.work)
+invariant-loop-x g l =
+    record {
+      answer : (r : Bool) → Tells (Asked g.K.Key.WORDS l.a l.n l.size l.work l.x l.waiting l.count l.last) r
+          → Tells (TreeStands (edition g.K.Key.WORDS) l.a l.n l.root l.size) r;
+      links : (j : ℕ) → j < l.waiting → (0 < get_or l.work j 0) × (get_or l.work j 0 ≤ l.n);
+      room : l.count + l.waiting ≤ l.size;
+    }
 
 abbrev pub decreases-loop-x : goal.decreases-loop-x
-decreases-loop-x l = 2 * (l.size - l.count) - l.waiting
+decreases-loop-x g l = 2 * (l.size - l.count) - l.waiting
