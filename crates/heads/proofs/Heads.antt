@@ -20,13 +20,14 @@ use Rattle.splay.proofs.Standing.{unchanged}
 use Rattle.heads.specs.declared.answer.Answer.{Answer}
 use Rattle.heads.specs.declared.head.Head.{Head}
 use Rattle.heads.specs.declared.head.Done.{Done}
-use Rattle.heads.specs.Did.{Says}
+use Rattle.heads.specs.Worded.{Says}
 use Rattle.heads.specs.Headed.{Headed, Obeyed}
 use Rattle.heads.specs.Slots.{Wrote}
 
 -- An outcome that is another.
-pub obeyed_as : {wd : ℕ} {o p : Outcome ℕ} {st : State ℕ} {w w' : List ℕ} {d : Done} → o ≡ p → Obeyed wd p st w w' d → Obeyed wd o st w w' d
-obeyed_as {wd} {st = st} {w = w} {w' = w'} {d = d} e b = subst (λ (q : Outcome ℕ). Obeyed wd q st w w' d) (sym e) b
+pub obeyed_as : {K : Type 0} {number : K → ℕ} {wd : ℕ} {o p : Outcome ℕ} {st : State ℕ} {w w' : List ℕ} {d : Done K} → o ≡ p
+    → Obeyed number wd p st w w' d → Obeyed number wd o st w w' d
+obeyed_as {K} {number} {wd} {st = st} {w = w} {w' = w'} {d = d} e b = subst (λ (q : Outcome ℕ). Obeyed number wd q st w w' d) (sym e) b
 
 -- The head with another root.
 abbrev pub rooted_at : Head → ℕ → Head
@@ -43,7 +44,7 @@ module _ {wd : ℕ} {w : List ℕ} {h : Head} {st : State ℕ} (f : Headed wd w 
       }
 
   -- An answer that changes nothing.
-  pub stays : {x : rules.Answer ℕ} {a : Answer} → Says wd a x → Obeyed wd (gives x st) st w w (record { answer = a; head = h })
+  pub stays : {K : Type 0} {number : K → ℕ} {x : rules.Answer ℕ} {a : Answer K} → Says number a x → Obeyed number wd (gives x st) st w w (record { answer = a; head = h })
   stays p = record { says = p; headed = f; only = unchanged }
 
   -- The chain where only slots of the tree have changed.
@@ -52,10 +53,10 @@ module _ {wd : ℕ} {w : List ℕ} {h : Head} {st : State ℕ} (f : Headed wd w 
 
   -- What a command writes makes its outcome stand, if there is room for its entries: that no slot is lost and that keys ascend are the
   -- rules'.
-  pub obeys : Width wd → (c : Command ℕ) → Moving c → {o : Outcome ℕ} → perform (edition wd) c st ≡ o → {a : Answer} {h' : Head} {w' : List ℕ}
-      → Says wd a o.answer → h'.size ≤ st.slots → Wrote wd st o.state h h' w w'
-      → Obeyed wd o st w w' (record { answer = a; head = h' })
-  obeys v c u {o} q {a} {h'} {w'} says low p =
+  pub obeys : {K : Type 0} {number : K → ℕ} → Width wd → (c : Command ℕ) → Moving c → {o : Outcome ℕ} → perform (edition wd) c st ≡ o → {a : Answer K} {h' : Head} {w' : List ℕ}
+      → Says number a o.answer → h'.size ≤ st.slots → Wrote wd st o.state h h' w w'
+      → Obeyed number wd o st w w' (record { answer = a; head = h' })
+  obeys {K} {number} v c u {o} q {a} {h'} {w'} says low p =
       let m : Moved st o.state
       = subst (λ (y : Outcome ℕ). Moved st y.state) q (perform_moved (edition wd) (edition_lawful v) c u st f.fit) in
       let live : h'.size ≡ size o.state.tree = omega (arith, p.number, m.number, f.live) in

@@ -10,7 +10,7 @@ use lib.ListN.{length, get_or, set, drop, length-drop}
 use mir.Val.{Fits}
 use mir.Syntax.{w32}
 use lib.Seq.{ext_get_or, get_or-drop, get_or-set_other}
-use Rattle.rules.specs.Edition.{edition, word_values, key_in, Width, Small, Spells}
+use Rattle.rules.specs.Edition.{edition, word_values, key_in, Width, Small}
 use Rattle.rules.specs.Perform.{State}
 use Rattle.rules.specs.Arena.{Slot, over, words, WellFormed}
 use Rattle.rules.proofs.Order.{by_width, edition_lawful}
@@ -90,10 +90,6 @@ small w m i = omega (arith, m i)
 
 pub fair : {wd : ℕ} {w w' : List ℕ} → Width wd → ((i : ℕ) → Fits w32 (get_or w i 0)) → ((i : ℕ) → Fits w32 (get_or w' i 0)) → Fair wd w w'
 fair {w = w} {w' = w'} v m m' = record { width = v; before = small w m; after = small w' m' }
-
--- A key that is read can be spelled.
-pub key_spells : {wd : ℕ} (w : List ℕ) → Small w → (s : ℕ) → Spells wd (slots wd w s).key
-key_spells w m s o = rw o (m (4 + 4 * s))
 
 -- Words stay words.
 pub small_set : (w : List ℕ) (i v : ℕ) → Small w → v < word_values → Small (set w i v)

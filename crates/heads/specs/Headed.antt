@@ -8,7 +8,7 @@ use Rattle.rules.specs.Fit.{Fit}
 use Rattle.node.specs.Stands.{Changed}
 use Rattle.heads.specs.declared.head.Head.{Head}
 use Rattle.heads.specs.declared.head.Done.{Done}
-use Rattle.heads.specs.Did.{Says}
+use Rattle.heads.specs.Worded.{Says}
 
 -- The head h leads to the state's tree and to its chain, which stand in slots within the words, no slot twice.
 pub record Headed (wd : ℕ) (w : List ℕ) (h : Head) (st : State ℕ) : Type 0 where
@@ -20,6 +20,7 @@ pub record Headed (wd : ℕ) (w : List ℕ) (h : Head) (st : State ℕ) : Type 0
   pub inside : (s : ℕ) → 1 ≤ times s st.tree + listed s st.free → place (edition wd) (suc s) ≤ length w
   pub fit : Fit (edition wd) st
 
+-- Some state stands under the head. (A clause and no type, as `Inside` is, and for the same reason.)
 abbrev pub Somehow : ℕ → List ℕ → Head → Type 0
 Somehow wd w h = (st : State ℕ) × Headed wd w h st × Width wd
 
@@ -32,7 +33,7 @@ abbrev pub slots_of : State ℕ → ℕ → ℕ
 slots_of st s = times s st.tree + listed s st.free
 
 -- The answer and the head are those of the outcome o, its state stands in the words w', and only slots of the state st may differ from w.
-pub record Obeyed (wd : ℕ) (o : Outcome ℕ) (st : State ℕ) (w w' : List ℕ) (d : Done) : Type 0 where
-  pub says : Says wd d.answer o.answer
+pub record Obeyed {K : Type 0} (number : K → ℕ) (wd : ℕ) (o : Outcome ℕ) (st : State ℕ) (w w' : List ℕ) (d : Done K) : Type 0 where
+  pub says : Says number d.answer o.answer
   pub headed : Headed wd w' d.head o.state
   pub only : Changed (edition wd) (slots_of st) w w'

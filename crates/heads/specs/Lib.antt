@@ -2,3 +2,4 @@
 pub mod Did
 pub mod Headed
 pub mod Slots
+pub mod Worded

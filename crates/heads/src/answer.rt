@@ -1,54 +1,102 @@
 // Answers, and how they are worded.
 ghost use Rattle.std.specs.Prelude.{◌≡◌, ℕ, suc};
 ghost use Rattle.rules.specs.Edition.{edition};
+ghost use Rattle.rules.specs.Command.{code_number};
 ghost use Rattle.rules.specs.Arena.{slot_at};
 ghost use Rattle.node.specs.Stands.{Inside};
+ghost use Rattle.heads.specs.declared.answer.Code.TheVariants as code;
+ghost use Rattle.heads.specs.Worded.{code_of, Words};
 
-use node::{key_of, word};
+use node::{Key, key_of, value};
 
-// An answer: "a code, a key, a value and the count". The key is a number here; how many words it takes is the edition's affair.
-#[derive(Clone, Copy)]
-pub struct Answer {
-    pub code: u32,
-    pub key: u64,
+// What an answer says of its command: the codes 0 to 7; those with which whole calls are refused; and the line program's.
+#[derive(Clone, Copy, Debug, PartialEq, Eq)]
+pub enum Code {
+    Found,
+    Absent,
+    New,
+    Replaced,
+    Removed,
+    Full,
+    Count,
+    Unknown,
+    Size,
+    Short,
+    Damaged,
+    Ragged,
+    NoRoom,
+    BadLine,
+}
+
+// The code as a word.
+impl From<Code> for u32 {
+    ghost from_gives = { λ code n. n ≡ code_number (code_of code) };
+
+    fn from(code: Code) -> u32 {
+        match code {
+            Code::Found => 0,
+            Code::Absent => 1,
+            Code::New => 2,
+            Code::Replaced => 3,
+            Code::Removed => 4,
+            Code::Full => 5,
+            Code::Count => 6,
+            Code::Unknown => 7,
+            Code::Size => 10,
+            Code::Short => 11,
+            Code::Damaged => 12,
+            Code::Ragged => 13,
+            Code::NoRoom => 14,
+            Code::BadLine => 15,
+        }
+    }
+}
+
+// An answer: "a code, a key, a value and the count".
+#[derive(Clone, Copy, Debug, PartialEq, Eq)]
+pub struct Answer<K> {
+    pub code: Code,
+    pub key: K,
     pub value: u32,
     pub count: u32,
 }
 
-// An answer without an entry.
-pub fn bare(code: u32, count: u32) -> Answer
-    ensures { result ≡ record { code = code; key = 0; value = 0; count = count } }
-{
-    Answer {
-        code,
-        key: 0,
-        value: 0,
-        count,
+impl<K: Key> Answer<K> {
+    // An answer without an entry.
+    pub fn bare(code: Code, count: u32) -> Answer<K>
+        ensures { Words K.number result code 0 0 count }
+    {
+        Answer {
+            code,
+            key: K::zero(),
+            value: 0,
+            count,
+        }
     }
-}
 
-// An answer with the entry that the link x leads to.
-pub fn entry(a: &[u32], width: usize, x: u32, code: u32, count: u32) -> Answer
-    requires { Inside width a.now x }
-    ensures { (s : ℕ) → x ≡ suc s →
-        (let c = slot_at (edition width) a.now s in result ≡ record { code = code; key = c.key; value = c.value; count = count }) }
-{
-    Answer {
-        code,
-        key: key_of(a, width, x),
-        value: word(a, width, x, 1),
-        count,
+    // An answer with the entry that the link x leads to.
+    pub fn entry(a: &[u32], x: u32, code: Code, count: u32) -> Answer<K>
+        requires { Inside K.WORDS a.now x }
+        ensures { (s : ℕ) → x ≡ suc s →
+            (let c = slot_at (edition K.WORDS) a.now s in Words K.number result code c.key c.value count) }
+    {
+        Answer {
+            code,
+            key: key_of(a, x),
+            value: value::<K>(a, x),
+            count,
+        }
     }
-}
 
-// The answer to clear and to length.
-pub fn counted(n: u32) -> Answer
-    ensures { result ≡ record { code = 6; key = 0; value = n; count = 0 } }
-{
-    Answer {
-        code: 6,
-        key: 0,
-        value: n,
-        count: 0,
+    // The answer to clear and to length.
+    pub fn counted(n: u32) -> Answer<K>
+        ensures { Words K.number result code.Count 0 n 0 }
+    {
+        Answer {
+            code: Code::Count,
+            key: K::zero(),
+            value: n,
+            count: 0,
+        }
     }
 }
