@@ -8,7 +8,7 @@ use Rattle.node.specs.Stands.{Stands}
 use Rattle.splay.specs.Moves.{Became}
 use Rattle.lookups.specs.declared.lookup.Met.{Met}
 
--- A tree that stands at the link x, with no more nodes than an arena has slots.
+-- A tree that stands at the link x, with no more nodes than an arena has slots. (A clause and no type, as `Inside` is.)
 pub record Few (wd : ℕ) (w : List ℕ) (x : ℕ) (t : Tree ℕ) : Type 0 where
   pub stands : Stands (edition wd) w x t
   pub few : size t ≤ most_slots

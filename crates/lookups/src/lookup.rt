@@ -1,6 +1,6 @@
 // Lookups: they splay, and so they change the tree.
 ghost use Rattle.std.specs.Prelude.{ℕ};
-ghost use Rattle.rules.specs.Edition.{edition, Width};
+ghost use Rattle.rules.specs.Edition.{edition};
 ghost use Rattle.rules.specs.Command.{get, write};
 ghost use Rattle.rules.specs.Tree.{Tree};
 ghost use Rattle.rules.specs.Perform.{State, perform};
@@ -8,12 +8,13 @@ ghost use Rattle.node.specs.Stands.{Stands};
 ghost use Rattle.heads.specs.Headed.{Headed, Somehow, Obeyed};
 ghost use Rattle.lookups.specs.Met.{Few, Meets};
 
-use heads::{Done, Head, bare, entry, rooted};
-use node::{key_of, put};
+use heads::{Answer, Code, Done, Head};
+use node::{Key, key_of, put_value};
 use splay::splay;
 
-// What the key meets at the root after the splay: whether it is the root's, the root's link or 0 for no tree, and the comparisons.
-#[derive(Clone, Copy)]
+// What the key meets at the root after the splay: whether it is the root's, the root's link or 0 for no tree, and the comparisons. (`here`
+// is no Option: root and count stand beside it in both cases.)
+#[derive(Clone, Copy, Debug, PartialEq, Eq)]
 pub struct Met {
     pub here: bool,
     pub root: u32,
@@ -21,11 +22,10 @@ pub struct Met {
 }
 
 // Splay, then compare with the root.
-pub fn bring(a: &mut [u32], width: usize, root: u32, key: u64) -> Met
-    requires width { Width width }
-    requires few { (t : Tree ℕ) × Few width a.old root t }
-    ensures { (t : Tree ℕ) → Stands (edition width) a.old root t →
-        Meets width key t a.old a.new result }
+pub fn bring<K: Key>(a: &mut [u32], root: u32, key: K) -> Met
+    requires { (t : Tree ℕ) × Few K.WORDS a.old root t }
+    ensures { (t : Tree ℕ) → Stands (edition K.WORDS) a.old root t →
+        Meets K.WORDS (K.number key) t a.old a.new result }
 {
     if root == 0 {
         return Met {
@@ -34,10 +34,10 @@ pub fn bring(a: &mut [u32], width: usize, root: u32, key: u64) -> Met
             count: 0,
         };
     }
-    let s = splay(a, width, root, key);
+    let s = splay(a, root, key);
     let x = s.root;
     let n = (s.count + 1) as u32;
-    if key_of(a, width, x) == key {
+    if key_of::<K>(a, x).number() == key.number() {
         return Met {
             here: true,
             root: x,
@@ -52,40 +52,40 @@ pub fn bring(a: &mut [u32], width: usize, root: u32, key: u64) -> Met
 }
 
 // 1 get.
-pub fn get(a: &mut [u32], width: usize, head: Head, key: u64) -> Done
-    requires { Somehow width a.old head }
-    ensures { (st : State ℕ) → Headed width a.old head st →
-        Obeyed width (perform (edition width) (get key) st) st a.old a.new result }
+pub fn get<K: Key>(a: &mut [u32], head: Head, key: K) -> Done<K>
+    requires { Somehow K.WORDS a.old head }
+    ensures { (st : State ℕ) → Headed K.WORDS a.old head st →
+        Obeyed K.number K.WORDS (perform (edition K.WORDS) (get (K.number key)) st) st a.old a.new result }
 {
-    let m = bring(a, width, head.root, key);
-    let h = rooted(head, m.root);
+    let m = bring(a, head.root, key);
+    let h = head.rooted(m.root);
     if !m.here {
         return Done {
-            answer: bare(1, m.count),
+            answer: Answer::bare(Code::Absent, m.count),
             head: h,
         };
     }
     Done {
-        answer: entry(a, width, m.root, 0, m.count),
+        answer: Answer::entry(a, m.root, Code::Found, m.count),
         head: h,
     }
 }
 
 // 2 write if present.
-pub fn write(a: &mut [u32], width: usize, head: Head, key: u64, value: u32) -> Done
-    requires { Somehow width a.old head }
-    ensures { (st : State ℕ) → Headed width a.old head st →
-        Obeyed width (perform (edition width) (write key value) st) st a.old a.new result }
+pub fn write<K: Key>(a: &mut [u32], head: Head, key: K, value: u32) -> Done<K>
+    requires { Somehow K.WORDS a.old head }
+    ensures { (st : State ℕ) → Headed K.WORDS a.old head st →
+        Obeyed K.number K.WORDS (perform (edition K.WORDS) (write (K.number key) value) st) st a.old a.new result }
 {
-    let m = bring(a, width, head.root, key);
-    let h = rooted(head, m.root);
+    let m = bring(a, head.root, key);
+    let h = head.rooted(m.root);
     if !m.here {
         return Done {
-            answer: bare(1, m.count),
+            answer: Answer::bare(Code::Absent, m.count),
             head: h,
         };
     }
-    let r = entry(a, width, m.root, 3, m.count);
-    put(a, width, m.root, 1, value);
+    let r = Answer::entry(a, m.root, Code::Replaced, m.count);
+    put_value::<K>(a, m.root, value);
     Done { answer: r, head: h }
 }

@@ -1,30 +1,22 @@
 -- What the key meets at the root after the splay: the splay has brought a node there, whose key is compared.
-use Rattle.std.proofs.Common.{sym, ◌∙◌, arith}
-use Rattle.lookups.proofs.Present.{rooted, root_at, root_inside, root_key, count_few, meets_here, meets_beside, meets_nobody}
+use Rattle.std.proofs.Common.{arith}
+use Rattle.lookups.proofs.Present.{brought_few, brought_in, brought_here, brought_beside, meets_nobody}
 use Rattle.lookups.proofs.lookup.bring.Goals as goal
 
 pub returns-then-root-eq0 : goal.returns-then-root-eq0
-returns-then-root-eq0 c t h = meets_nobody _ t h c.if-root-eq0.true
+returns-then-root-eq0 g c = search meets_nobody
 
 pub overflow_add-n : goal.overflow_add-n
-overflow_add-n c = let (t, f) = c.requires.few in omega (arith, count_few c.args.key t (c.splay-s.ensures t f.stands).1 f.few)
+overflow_add-n g c = omega (arith, brought_few _ c.splay-s.ensures c.requires)
 
 pub overflow_cast-n : goal.overflow_cast-n
-overflow_cast-n c = let (t, f) = c.requires.few in omega (arith, count_few c.args.key t (c.splay-s.ensures t f.stands).1 f.few)
+overflow_cast-n g c = omega (arith, brought_few _ c.splay-s.ensures c.requires)
 
 pub key_of-requires : goal.key_of-requires
-key_of-requires c =
-    let (t, f) = c.requires.few in
-    root_inside (rooted (c.splay-s.ensures t f.stands) (omega (arith, f.stands.at, c.if-root-eq0.false))).root c.requires.width
+key_of-requires g c = brought_in _ c.splay-s.ensures g.met.K.Key.width c.requires c.if-root-eq0.false
 
-pub returns-then-key_of-key : goal.returns-then-key_of-key
-returns-then-key_of-key c t h =
-    let s = c.splay-s.ensures t h in
-    let p = rooted s (omega (arith, h.at, c.if-root-eq0.false)) in
-    meets_here s p (sym c.if-key_of-key.true ∙ c.key_of.ensures p.e.slot (root_at p.root) ∙ root_key p.root) _ (omega arith)
+pub returns-then-number : goal.returns-then-number
+returns-then-number g c = search brought_here
 
 pub returns : goal.returns
-returns c t h =
-    let s = c.splay-s.ensures t h in
-    let p = rooted s (omega (arith, h.at, c.if-root-eq0.false)) in
-    meets_beside s p (λ e. c.if-key_of-key.false (c.key_of.ensures p.e.slot (root_at p.root) ∙ root_key p.root ∙ sym e)) _ (omega arith)
+returns g c = search brought_beside

@@ -6,7 +6,7 @@ use Rattle.lookups.proofs.Walks.{Walk, Ending}
 use Rattle.lookups.proofs.neighbours.outermost.Given as goal
 
 abbrev pub invariant-loop-x : goal.invariant-loop-x
-invariant-loop-x l = Walk l.width l.a (Ending (side_of l.p) (read_off l.width l.a l.root)) l.x l.best
+invariant-loop-x g l = Walk g.K.Key.WORDS l.a (Ending (side_of l.side) (read_off g.K.Key.WORDS l.a l.root)) l.x l.best
 
 abbrev pub decreases-loop-x : goal.decreases-loop-x
-decreases-loop-x l = size (read_off l.width l.a l.x)
+decreases-loop-x g l = size (read_off g.K.Key.WORDS l.a l.x)

@@ -6,7 +6,8 @@ use Rattle.lookups.proofs.Walks.{Walk, Seeking}
 use Rattle.lookups.proofs.neighbours.seek.Given as goal
 
 abbrev pub invariant-loop-x : goal.invariant-loop-x
-invariant-loop-x l = Walk l.width l.a (Seeking l.width (side_of l.p) l.key (read_off l.width l.a l.root) l.count) l.x l.best
+invariant-loop-x g l =
+    Walk g.K.Key.WORDS l.a (Seeking g.K.Key.WORDS (side_of l.side) (g.K.Key.number l.key) (read_off g.K.Key.WORDS l.a l.root) l.count) l.x l.best
 
 abbrev pub decreases-loop-x : goal.decreases-loop-x
-decreases-loop-x l = size (read_off l.width l.a l.x)
+decreases-loop-x g l = size (read_off g.K.Key.WORDS l.a l.x)
