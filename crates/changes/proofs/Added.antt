@@ -1,29 +1,32 @@
 -- 5 insert: the key is there, or there is no room, or its node is the new root.
 use mathlib.Core.Bool.{false}
-use mathlib.Core.List.{List, [], ◌∷◌}
+use mathlib.Core.List.{List, ◌∷◌}
 use mathlib.Core.Path.{◌≡◌, refl, sym, ap, ◌∙◌, subst}
-use Prim.Native.Nat.{ℕ, ◌+◌, ◌*◌, ◌<◌}
+use Prim.Native.Nat.{ℕ, ◌+◌, ◌*◌}
 use native.Mathlib.Omega.{arith}
-use lib.ListN.{length, set}
+use lib.ListN.{set}
 use borrow.Author.Tests.{eq-eqb, ne_eqb}
-use Rattle.rules.specs.Order.{Side, left, right, Order, equal, toward, by_number}
-use Rattle.rules.specs.Edition.{edition, Width, Small, Spells}
+use Rattle.rules.specs.Order.{Side, Order, equal, toward, by_number}
+use Rattle.rules.specs.Edition.{edition, Width}
 use Rattle.rules.specs.Command.{get, insert}
 use Rattle.rules.specs.Tree.{Entry, Tree, none, node, hit, size, link_to}
 use Rattle.rules.specs.Splay.{splay}
 use Rattle.rules.specs.Perform as M
 use Rattle.rules.specs.Perform.{State, full, in_slot, first_of, with_tree, taking, room, new_root, bring, found, if_present, inserted, perform}
-use Rattle.rules.specs.Arena.{first_link}
 use Rattle.rules.proofs.Order.{order_from}
 use Rattle.node.proofs.Words.{slots, kept_trans}
 use Rattle.heads.specs.Headed.{Headed, Obeyed}
 use Rattle.heads.specs.Slots.{Wrote}
+use Rattle.heads.specs.Worded.{Words}
+use Rattle.heads.specs.declared.answer.Answer.{Answer}
+use Rattle.heads.specs.declared.answer.Code.TheVariants as code
 use Rattle.heads.specs.declared.head.Head.{Head}
 use Rattle.heads.proofs.Heads.{obeyed_as, rooted_at, stays, obeys, root_wrote}
 use Rattle.lookups.specs.Met.{AtRoot, Meets, no_tree, beside, here}
 use Rattle.lookups.specs.declared.lookup.Met.{Met}
-use Rattle.lookups.proofs.Present.{absent, Here, replaced_here, root_at, root_key}
+use Rattle.lookups.proofs.Present.{worded, absent, Here, replaced_here, root_at, root_key}
 use Rattle.changes.specs.Grown.{with_root, Rootless, Grew}
+use Rattle.changes.proofs.Grow.{chosen}
 
 -- What is written after a splay is written from the first words.
 then_wrote : {wd : ℕ} {w w₁ w₂ : List ℕ} {h h' : Head} {st st' : State ℕ} {x : ℕ} {e : Entry ℕ} {l r : Tree ℕ}
@@ -71,30 +74,28 @@ room_free : (st : State ℕ) (x : ℕ) (more : List ℕ) → (size st.tree ≡ s
 unfolding room
 room_free st x more n e = rw (ne_eqb (size st.tree) st.slots n) (ap first_of e)
 
-chosen : (s : Side) (x e : Entry ℕ) (l r : Tree ℕ) → by_number x.key e.key ≡ toward s → with_root x (node e l r) ≡ new_root s x e l r
-chosen left x e l r o = rw o
-chosen right x e l r o = rw o
-
 never : {A : Type 0} {s : Side} (o : Order) → o ≡ toward s → o ≡ equal → A
 never o p q = absurd (let z : ◌≡◌ {A = ℕ} 0 1 = cc in omega arith)
 
 rebased : {wd : ℕ} {h h' : Head} {x : ℕ} {st st' : State ℕ} {w w' : List ℕ} → Wrote wd st st' (rooted_at h x) h' w w' → Wrote wd st st' h h' w w'
 rebased p = record { root = p.root; number = p.number; first = p.first; nodes = p.nodes; chain = p.chain; only = p.only }
 
-module _ {wd : ℕ} (wide : Width wd) (k v : ℕ) {h : Head} {st : State ℕ} {w : List ℕ} (f : Headed wd w h st) where
+module _ {wd : ℕ} (wide : Width wd) {k : ℕ} {h : Head} {st : State ℕ} {w : List ℕ} (f : Headed wd w h st) where
   -- The key is there: its value is replaced.
-  pub insert_here : {w₁ : List ℕ} {x n : ℕ} (w₂ : List ℕ) (p : Here wd k st.tree w w₁ x n) → Small w₁ → w₂ ≡ set w₁ ((3 + wd) * x + 1) v
-      → Obeyed wd (perform (edition wd) (insert k v) st) st w w₂
-      (record { answer = record { code = 3; key = (slots wd w₁ p.e.slot).key; value = (slots wd w₁ p.e.slot).value; count = n }; head = rooted_at h x })
+  pub insert_here : (v : ℕ) {K : Type 0} {number : K → ℕ} {w₁ : List ℕ} {x n : ℕ} {r : Answer K} {w₂ : List ℕ} (p : Here wd k st.tree w w₁ x n)
+      → Words number r code.Replaced (slots wd w₁ p.e.slot).key (slots wd w₁ p.e.slot).value n → w₂ ≡ set w₁ ((3 + wd) * x + 1) v
+      → Obeyed number wd (perform (edition wd) (insert k v) st) st w w₂ (record { answer = r; head = rooted_at h x })
   unfolding perform inserted
-  insert_here w₂ p m e =
-      replaced_here wide f p m (insert k v) tt v w₂ e (ap (λ (z : M.Met ℕ). inserted (edition wd) k v z (room st) st) p.brought)
+  insert_here v p a e =
+      replaced_here wide f p a (insert k v) tt v _ e (ap (λ (z : M.Met ℕ). inserted (edition wd) k v z (room st) st) p.brought)
 
   -- After the splay, where the key is not there, the state stands under the head with the new root: as get leaves it.
   module _ {w₁ : List ℕ} {m : Met} (p : Meets wd k st.tree w w₁ m) (z : m.here ≡ false) where
     pub not_here : Headed wd w₁ (rooted_at h m.root) (if_present (edition wd) (found (edition wd)) (bring (edition wd) k st.tree) st).state
     unfolding perform
-    not_here = (absent wide f (found (edition wd)) (get k) tt refl p z).headed
+    not_here =
+        (absent wide f (found (edition wd)) (get k) tt refl {number = λ (k : ℕ). k} {r = record { code = code.Absent; key = 0; value = 0; count = m.count }} p z
+        (record { code = refl; key = refl; value = refl; count = refl })).headed
 
     headed_as : (b : M.Met ℕ) → bring (edition wd) k st.tree ≡ b → Headed wd w₁ (rooted_at h m.root) (if_present (edition wd) (found (edition wd)) b st).state
     headed_as b q = subst (λ (y : M.Met ℕ). Headed wd w₁ (rooted_at h m.root) (if_present (edition wd) (found (edition wd)) y st).state) q not_here
@@ -104,59 +105,52 @@ module _ {wd : ℕ} (wide : Width wd) (k v : ℕ) {h : Head} {st : State ℕ} {w
       never (by_number k e.key) (bring_order wd k st.tree (toward s) e l r n b)
       (order_from equal k e.key (y ∙ ap (λ (i : ℕ). (slots wd w₁ i).key) (omega (arith, root_at q)) ∙ root_key q))
 
-  -- There is a free slot where there is room.
-  pub some_free : (h.size ≡ st.slots → ⊥) → 0 < h.free
-  some_free n = by st.free refl
-    where
-      by : (c : List ℕ) → st.free ≡ c → 0 < h.free
-      by [] e = absurd (n (omega (arith, f.live, f.fit.low, f.fit.room, ap length e)))
-      by (x ∷ more) e = omega (arith, f.first, ap first_link e)
-
   -- There is no room.
-  pub insert_full : {w₁ : List ℕ} {m : Met} → Meets wd k st.tree w w₁ m → m.here ≡ false → h.size ≡ st.slots
-      → Obeyed wd (perform (edition wd) (insert k v) st) st w w₁ (record { answer = record { code = 5; key = 0; value = 0; count = m.count }; head = rooted_at h m.root })
+  pub insert_full : (v : ℕ) {K : Type 0} {number : K → ℕ} {w₁ : List ℕ} {m : Met} {r : Answer K} → Meets wd k st.tree w w₁ m → m.here ≡ false → h.size ≡ st.slots → Words number r code.Full 0 0 m.count
+      → Obeyed number wd (perform (edition wd) (insert k v) st) st w w₁ (record { answer = r; head = rooted_at h m.root })
   unfolding perform inserted if_present
-  insert_full {w₁} {m} (no_tree hh x c b t e) z n =
+  insert_full v {w₁ = w₁} {m} (no_tree hh x c b t e) z n a =
       let o = room_full st (sym f.live ∙ n) in
       let q = ap (λ (y : M.Met ℕ). inserted (edition wd) k v y (room st) st) b ∙ ap (λ (y : M.Room). inserted (edition wd) k v M.nobody y st) o in
       obeyed_as q
       (let same : rooted_at h m.root ≡ h = λ i. record { root = (x ∙ sym (f.root ∙ ap link_to t)) i; size = h.size; free = h.free } in
-      rw (same, e) (stays f (record { code = refl; key = refl; value = refl; count = c; fits = λ o. omega arith })))
-  insert_full {m = m} (beside s e l r hh b a) z n =
+      rw (same, e) (stays f (rw c at (worded a))))
+  insert_full v {m = m} (beside s e l r hh b y) z n a =
       let o = room_full st (sym f.live ∙ n) in
       let q =
       ap (λ (y : M.Met ℕ). inserted (edition wd) k v y (room st) st) b
       ∙ ap (λ (y : M.Room). inserted (edition wd) k v (M.met (toward s) e l r m.count) y st) o in
       obeyed_as q
-      (obeys f wide (insert k v) tt q (record { code = refl; key = refl; value = refl; count = refl; fits = λ o. omega arith })
-      (omega (arith, f.live, f.fit.low)) (root_wrote f (node e l r) a.became))
-  insert_full (here e l r hh b q) z n = absurd (let y : ◌≡◌ {A = ℕ} 0 1 = cc in omega arith)
+      (obeys f wide (insert k v) tt q (worded a)
+      (omega (arith, f.live, f.fit.low)) (root_wrote f (node e l r) y.became))
+  insert_full v (here e l r hh b q) z n a = absurd (let y : ◌≡◌ {A = ℕ} 0 1 = cc in omega arith)
 
   -- Its node is the new root.
-  pub insert_new : {w₁ : List ℕ} {m : Met} (w₂ : List ℕ) (h' : Head) → Spells wd k → Meets wd k st.tree w w₁ m → m.here ≡ false → (h.size ≡ st.slots → ⊥)
+  pub insert_new : {K : Type 0} {number : K → ℕ} {v : ℕ} {w₁ : List ℕ} {m : Met} {r : Answer K} {w₂ : List ℕ} {h' : Head} → Meets wd k st.tree w w₁ m → m.here ≡ false → (h.size ≡ st.slots → ⊥)
       → ((u : State ℕ) → Headed wd w₁ (rooted_at h m.root) u → Rootless wd k w₁ (rooted_at h m.root) → Grew wd k v u (rooted_at h m.root) w₁ w₂ h')
-      → Obeyed wd (perform (edition wd) (insert k v) st) st w w₂ (record { answer = record { code = 2; key = k; value = 0; count = m.count }; head = h' })
+      → Words number r code.New k 0 m.count
+      → Obeyed number wd (perform (edition wd) (insert k v) st) st w w₂ (record { answer = r; head = h' })
   unfolding perform inserted if_present
-  insert_new {w₁} {m} w₂ h' sp (no_tree hh x c b t e) z n grows =
+  insert_new {v = v} {w₁} {m} {w₂ = w₂} {h'} (no_tree hh x c b t e) z n grows a =
       let g = grows st (headed_as (no_tree hh x c b t e) z M.nobody b) (λ s y q. absurd (omega (arith, x))) in
       let new : Entry ℕ = record { slot = g.slot; key = k; value = v } in
       let o = room_free st g.slot g.more (λ y. n (f.live ∙ y)) g.was in
       let q = ap (λ (y : M.Met ℕ). inserted (edition wd) k v y (room st) st) b ∙ ap (λ (y : M.Room). inserted (edition wd) k v M.nobody y st) o in
       obeyed_as q
-      (obeys f wide (insert k v) tt q (record { code = refl; key = refl; value = refl; count = c; fits = sp })
+      (obeys f wide (insert k v) tt q (rw c at (worded a))
       (omega (arith, g.bigger, f.live, f.fit.low, n))
       (subst (λ (u : List ℕ). Wrote wd st (taking (node new none none) g.more st) h h' u w₂) e
       (rebased (subst (λ (u : Tree ℕ). Wrote wd st (taking (with_root new u) g.more st) (rooted_at h m.root) h' w₁ w₂) t g.wrote))))
-  insert_new {w₁} {m} w₂ h' sp (beside s e l r hh b a) z n grows =
-      let g = grows (with_tree (node e l r) st) (headed_as (beside s e l r hh b a) z (M.met (toward s) e l r m.count) b) (root_other s e l r b a) in
+  insert_new {v = v} {w₁} {m} {w₂ = w₂} {h'} (beside s e l r hh b y) z n grows a =
+      let g = grows (with_tree (node e l r) st) (headed_as (beside s e l r hh b y) z (M.met (toward s) e l r m.count) b) (root_other s e l r b y) in
       let new : Entry ℕ = record { slot = g.slot; key = k; value = v } in
-      let o = room_free st g.slot g.more (λ y. n (f.live ∙ y)) g.was in
+      let o = room_free st g.slot g.more (λ u. n (f.live ∙ u)) g.was in
       let q =
       ap (λ (x : M.Met ℕ). inserted (edition wd) k v x (room st) st) b
       ∙ ap (λ (x : M.Room). inserted (edition wd) k v (M.met (toward s) e l r m.count) x st) o in
       obeyed_as q
-      (obeys f wide (insert k v) tt q (record { code = refl; key = refl; value = refl; count = refl; fits = sp })
+      (obeys f wide (insert k v) tt q (worded a)
       (omega (arith, g.bigger, f.live, f.fit.low, n))
-      (then_wrote a
+      (then_wrote y
       (subst (λ (u : Tree ℕ). Wrote wd (with_tree (node e l r) st) (taking u g.more st) (rooted_at h m.root) h' w₁ w₂) (chosen s new e l r (bring_order wd k st.tree (toward s) e l r m.count b)) g.wrote)))
-  insert_new w₂ h' sp (here e l r hh b q) z n grows = absurd (let y : ◌≡◌ {A = ℕ} 0 1 = cc in omega arith)
+  insert_new (here e l r hh b q) z n grows a = absurd (let y : ◌≡◌ {A = ℕ} 0 1 = cc in omega arith)

@@ -1,11 +1,11 @@
 -- 9, 10: the end that has risen to the root is taken, for either side.
 use mathlib.Core.List.{List}
-use mathlib.Core.Path.{◌≡◌, refl, sym, ap, ◌∙◌, subst}
+use mathlib.Core.Path.{◌≡◌, refl, ap, ◌∙◌, subst}
 use Prim.Native.Nat.{ℕ, suc, ◌+◌, ◌*◌, ◌-◌, ◌≤◌, ◌<◌}
 use native.Mathlib.Omega.{arith}
 use lib.ListN.{get_or}
 use Rattle.rules.specs.Order.{Side, left, right, other}
-use Rattle.rules.specs.Edition.{edition, Width, Small}
+use Rattle.rules.specs.Edition.{edition, Width}
 use Rattle.rules.specs.Command.{Command, REMOVED, telling, take_first, take_last}
 use Rattle.rules.specs.Tree.{Entry, Tree, none, node, fork, hit, times, weigh, link_to}
 use Rattle.rules.specs.Perform.{State, Outcome, freeing, gives, raise, taken, perform}
@@ -16,22 +16,25 @@ use Rattle.rules.proofs.Order.{edition_lawful}
 use Rattle.rules.proofs.Splay.{weigh_fork}
 use Rattle.rules.proofs.Kept.{Moved, perform_moved}
 use Rattle.node.specs.Stands.{off, Stands, Inside, Filled}
-use Rattle.node.proofs.Memory.{link_on, on_key, on_value, on_far, fork_link, held_fork, no_link}
+use Rattle.node.proofs.Memory.{link_on, on_key, on_value, on_far, fork_link, held_fork}
 use Rattle.node.proofs.Words.{slots, link_word}
 use Rattle.splay.specs.Moves.{Became, risen, end_risen}
-use Rattle.heads.specs.Headed.{Headed, Obeyed}
+use Rattle.heads.specs.Headed.{Headed, Somehow, Obeyed}
+use Rattle.heads.specs.Worded.{Words}
+use Rattle.heads.specs.declared.answer.Answer.{Answer}
+use Rattle.heads.specs.declared.answer.Code.TheVariants as code
 use Rattle.heads.specs.declared.head.Head.{Head}
-use Rattle.heads.proofs.Settle.{key_spells}
-use Rattle.heads.proofs.Heads.{obeyed_as, stays, obeys}
+use Rattle.heads.proofs.Heads.{obeyed_as, rooted_at, tree_stands, obeys}
+use Rattle.lookups.proofs.Present.{worded}
 use Rattle.changes.proofs.Release.{release}
 
 -- The end of a tree: it is the root once it has risen, with no child on its side, and it is what is taken.
-pub record Ended (wd : ℕ) (d : Side) (t : Tree ℕ) (st : State ℕ) : Type 0 where
-  pub e : Entry ℕ
-  pub far : Tree ℕ
-  pub up : end_risen d t ≡ fork d e none far
-  pub nodes : (f : Entry ℕ → ℕ) → weigh f t ≡ f e + weigh f far
-  pub outcome : taken (edition wd) d t st ≡ gives (telling (edition wd) REMOVED e.key e.value 0) (freeing e.slot far st)
+record Ended (wd : ℕ) (d : Side) (t : Tree ℕ) (st : State ℕ) : Type 0 where
+  e : Entry ℕ
+  far : Tree ℕ
+  up : end_risen d t ≡ fork d e none far
+  nodes : (f : Entry ℕ → ℕ) → weigh f t ≡ f e + weigh f far
+  outcome : taken (edition wd) d t st ≡ gives (telling (edition wd) REMOVED e.key e.value 0) (freeing e.slot far st)
 
 record Risen (wd : ℕ) (d : Side) (near : Tree ℕ) (c : Entry ℕ) (y : Tree ℕ) (st : State ℕ) : Type 0 where
   e : Entry ℕ
@@ -50,7 +53,7 @@ rises wd right (node b l r) c y st =
     let q = rises wd right r b (node c y l) st in
     record { e = q.e; far = q.far; up = q.up; nodes = λ f. omega (arith, q.nodes f); outcome = q.outcome }
 
-pub ends : (wd : ℕ) (d : Side) (t : Tree ℕ) (st : State ℕ) → 0 < link_to t → Ended wd d t st
+ends : (wd : ℕ) (d : Side) (t : Tree ℕ) (st : State ℕ) → 0 < link_to t → Ended wd d t st
 ends wd d none st p = absurd (omega arith)
 ends wd left (node c l r) st p =
     let q = rises wd left l c r st in
@@ -70,54 +73,44 @@ unfolding perform
 taker wd left st = record { command = take_first; moving = tt; does = refl }
 taker wd right st = record { command = take_last; moving = tt; does = refl }
 
--- There is nothing to take.
-pub nothing_taken : {wd : ℕ} {w : List ℕ} {h : Head} {st : State ℕ} (d : Side) → Headed wd w h st → h.root ≡ 0
-    → Obeyed wd (taken (edition wd) d st.tree st) st w w (record { answer = record { code = 1; key = 0; value = 0; count = 0 }; head = h })
-nothing_taken {wd} {w} {h} {st} d f e =
-    obeyed_as (ap (λ (t : Tree ℕ). taken (edition wd) d t st) (no_link st.tree (sym f.root ∙ e)))
-    (stays f (record { code = refl; key = refl; value = refl; count = refl; fits = λ o. omega arith }))
-
-module _ {wd : ℕ} (d : Side) {st : State ℕ} {h : Head} {w w₁ : List ℕ} {x : ℕ} (f : Headed wd w h st) (p : 0 < h.root) (b : Became wd w w₁ x st.tree (end_risen d st.tree)) where
-  pub end : Ended wd d st.tree st
-  end = ends wd d st.tree st (omega (arith, f.root))
+module _ {wd : ℕ} (d : Side) {st : State ℕ} {h : Head} {w w₁ : List ℕ} {x : ℕ} (f : Headed wd w h st) (z : h.root ≡ 0 → ⊥) (b : Became wd w w₁ x st.tree (end_risen d st.tree)) where
+  end : Ended wd d st.tree st
+  end = ends wd d st.tree st (omega (arith, z, f.root))
 
   up_stands : Stands (edition wd) w₁ x (fork d end.e none end.far)
   up_stands = subst (λ (t : Tree ℕ). Stands (edition wd) w₁ x t) end.up b.stands
 
-  pub end_at : x ≡ suc end.e.slot
+  end_at : x ≡ suc end.e.slot
   end_at = up_stands.at ∙ fork_link d end.e none end.far
 
   end_one : 1 ≤ times end.e.slot st.tree
   end_one = omega (arith, end.nodes (λ e. hit end.e.slot e.slot), hit_same end.e.slot)
 
-  pub end_inside : Width wd → Inside wd w₁ x
+  end_inside : Width wd → Inside wd w₁ x
   end_inside v =
       let q = up_stands.inside end.e.slot (omega (arith, weigh_fork (λ e. hit end.e.slot e.slot) d end.e none end.far, hit_same end.e.slot)) in
       rw end_at (omega arith)
 
-  pub end_live : 0 < h.size
-  end_live = omega (arith, f.live, end.nodes (λ e. 1))
-
-  pub taken_here : Width wd → (y : ℕ) (w₂ : List ℕ) → Small w₁ → y ≡ get_or w₁ ((3 + wd) * x + off (other d)) 0 → Filled wd x (free_slot (edition wd) h.free) w₁ w₂
-      → Obeyed wd (taken (edition wd) d st.tree st) st w w₂
-      (record {
-        answer = record { code = 4; key = (slots wd w₁ end.e.slot).key; value = (slots wd w₁ end.e.slot).value; count = 0 };
-        head = record { root = y; size = h.size - 1; free = x };
-      })
-  taken_here v y w₂ m₁ ey r =
+  pub taken_here : {K : Type 0} {number : K → ℕ} {a : Answer K} {y : ℕ} {o : Side} {w₂ : List ℕ} {h₁ h' : Head} → Width wd → o ≡ other d → y ≡ get_or w₁ ((3 + wd) * x + off o) 0
+      → h₁ ≡ rooted_at h y → Filled wd x (free_slot (edition wd) h₁.free) w₁ w₂ → h' ≡ record { root = h₁.root; size = h₁.size - 1; free = x }
+      → ((s : ℕ) → x ≡ suc s → Words number a code.Removed (slots wd w₁ s).key (slots wd w₁ s).value 0)
+      → Obeyed number wd (taken (edition wd) d st.tree st) st w w₂ (record { answer = a; head = h' })
+  taken_here {y = y} v eo ey e r eh a =
       let (m, hn, hf) = held_fork d (slots wd w₁) end.e none end.far up_stands.holds in
-      let yf : y ≡ link_to end.far = ey ∙ link_word (other d) wd w₁ x end.e.slot end_at ∙ ap (link_on (other d)) m ∙ on_far d end.e 0 (link_to end.far) in
+      let yf : y ≡ link_to end.far
+      = (rw eo at ey) ∙ link_word (other d) wd w₁ x end.e.slot end_at ∙ ap (link_on (other d)) m ∙ on_far d end.e 0 (link_to end.far) in
       let t = taker wd d st in
       let q = t.does ∙ end.outcome in
-      obeyed_as end.outcome
+      rw (eh, e)
+      (obeyed_as end.outcome
       (obeys f v t.command t.moving q
-      (record {
-        code = refl;
-        key = ap (λ (c : Slot ℕ). c.key) m ∙ on_key d end.e 0 (link_to end.far);
-        value = ap (λ (c : Slot ℕ). c.value) m ∙ on_value d end.e 0 (link_to end.far);
-        count = refl;
-        fits = key_spells w₁ m₁ end.e.slot;
-      })
+      (rw (ap (λ (c : Slot ℕ). c.key) m ∙ on_key d end.e 0 (link_to end.far), ap (λ (c : Slot ℕ). c.value) m ∙ on_value d end.e 0 (link_to end.far))
+      at (worded (a end.e.slot end_at)))
       (omega (arith, f.live, f.fit.low))
-      (release f end.e.slot x y end.far b.only hf yf end_at r end_one
-      (subst (λ (o : Outcome ℕ). Moved st o.state) q (perform_moved (edition wd) (edition_lawful v) t.command t.moving st f.fit))))
+      (release f end.e.slot x y end.far b.only hf yf end_at (rw e at r) end_one
+      (subst (λ (o : Outcome ℕ). Moved st o.state) q (perform_moved (edition wd) (edition_lawful v) t.command t.moving st f.fit)))))
+
+-- The words of the end that has risen are there.
+module _ {wd : ℕ} (d : Side) {h : Head} {w w₁ : List ℕ} {x : ℕ} (z : h.root ≡ 0 → ⊥) (b : (t : Tree ℕ) → Stands (edition wd) w h.root t → Became wd w w₁ x t (end_risen d t)) where
+  pub end_there : Somehow wd w h → Inside wd w₁ x
+  end_there (st, f, v) = end_inside d f z (b st.tree (tree_stands f)) v

@@ -1,7 +1,7 @@
 -- A new node becomes the root, for either side: what insert of a new key comes to.
 use mathlib.Core.List.{List, [], ◌∷◌}
 use mathlib.Core.Path.{◌≡◌, refl, sym, ap, ◌∙◌, subst}
-use Prim.Native.Nat.{ℕ, suc, ◌+◌, ◌*◌, ◌≤◌, ◌<◌}
+use Prim.Native.Nat.{ℕ, suc, ◌+◌, ◌*◌, ◌-◌, ◌≤◌, ◌<◌}
 use native.Mathlib.Omega.{arith}
 use lib.ListN.{length, get_or, set}
 use Rattle.rules.specs.Order.{Side, left, right, other, toward, by_number}
@@ -10,34 +10,36 @@ use Rattle.rules.specs.Tree.{Entry, Tree, none, node, fork, hit, times, link_to}
 use Rattle.rules.specs.Perform.{State, taking, new_root}
 use Rattle.rules.specs.Arena.{Slot, Holds, Chained, free_slot, first_link, listed}
 use Rattle.rules.proofs.Hit.{hit_same}
+use Rattle.rules.proofs.Order.{order_from}
 use Rattle.rules.proofs.Splay.{weigh_fork}
 use Rattle.rules.proofs.Held.{chained_frame, holds_frame}
 use Rattle.node.specs.Stands.{off, Kept, Inside, Filled}
 use Rattle.node.proofs.Memory.{on, link_on, on_near, fork_link, fork_held, held_fork, no_link, Relinked, relinked_near, relinked_far}
 use Rattle.node.proofs.Words.{slots, link_word, relinked_at, kept_trans, inside_kept, kept_set}
 use Rattle.splay.proofs.Standing.{root_in}
+use Rattle.splay.proofs.Tagged.{right_of}
 use Rattle.splay.proofs.Walk.{KeyRead}
-use Rattle.heads.specs.Headed.{Headed}
+use Rattle.heads.specs.Headed.{Headed, Somehow}
 use Rattle.heads.specs.Slots.{Wrote}
 use Rattle.heads.specs.declared.head.Head.{Head}
 use Rattle.heads.proofs.Heads.{tree_stands}
-use Rattle.changes.specs.Grown.{crowned, with_root, Grew}
+use Rattle.changes.specs.Grown.{crowned, with_root, Rootless, Grew}
 
 -- The free chain's first slot.
-pub record Free (wd : ℕ) (st : State ℕ) (w : List ℕ) (h : Head) : Type 0 where
-  pub slot : ℕ
-  pub more : List ℕ
-  pub is : st.free ≡ slot ∷ more
-  pub first : h.free ≡ suc slot
-  pub inside : Inside wd w h.free
-  pub apart : times slot st.tree ≡ 0
-  pub once : listed slot more ≡ 0
-  pub next : slots wd w slot ≡ free_slot (edition wd) (first_link more)
-  pub rest : Chained (edition wd) (slots wd w) more
-  pub off : (s : ℕ) → 1 ≤ listed s more → times s st.tree ≡ 0
-  pub listing : (s : ℕ) → listed s st.free ≡ hit s slot + listed s more
+record Free (wd : ℕ) (st : State ℕ) (w : List ℕ) (h : Head) : Type 0 where
+  slot : ℕ
+  more : List ℕ
+  is : st.free ≡ slot ∷ more
+  first : h.free ≡ suc slot
+  inside : Inside wd w h.free
+  apart : times slot st.tree ≡ 0
+  once : listed slot more ≡ 0
+  next : slots wd w slot ≡ free_slot (edition wd) (first_link more)
+  rest : Chained (edition wd) (slots wd w) more
+  off : (s : ℕ) → 1 ≤ listed s more → times s st.tree ≡ 0
+  listing : (s : ℕ) → listed s st.free ≡ hit s slot + listed s more
 
-pub free_there : {wd : ℕ} {w : List ℕ} {h : Head} {st : State ℕ} → Width wd → Headed wd w h st → 0 < h.free → Free wd st w h
+free_there : {wd : ℕ} {w : List ℕ} {h : Head} {st : State ℕ} → Width wd → Headed wd w h st → 0 < h.free → Free wd st w h
 free_there {wd} {w} {h} {st} v f n = by st.free refl
   where
     by : (c : List ℕ) → st.free ≡ c → Free wd st w h
@@ -61,11 +63,11 @@ free_there {wd} {w} {h} {st} v f n = by st.free refl
         }
 
 -- The head where a node in the first free slot is the root.
-abbrev pub grown : Head → ℕ → Head
+abbrev grown : Head → ℕ → Head
 grown h next = record { root = h.free; size = h.size + 1; free = next }
 
 -- The first node.
-pub first_root : {wd : ℕ} {w w₁ : List ℕ} {h : Head} {st : State ℕ} (k v next : ℕ) (f : Headed wd w h st) (c : Free wd st w h) → next ≡ get_or w ((3 + wd) * h.free + 2) 0
+first_root : {wd : ℕ} {w w₁ : List ℕ} {h : Head} {st : State ℕ} (k v next : ℕ) (f : Headed wd w h st) (c : Free wd st w h) → next ≡ get_or w ((3 + wd) * h.free + 2) 0
     → Filled wd h.free (record { key = k; value = v; left = 0; right = 0 }) w w₁
     → Wrote wd st (taking (node (record { slot = c.slot; key = k; value = v }) none none) c.more st) h (grown h next) w w₁
 first_root {wd} {w} {w₁} {h} {st} k v next f c en t =
@@ -190,7 +192,7 @@ module _ {wd : ℕ} (wide : Width wd) (d : Side) {w w₁ w₂ : List ℕ} {h : H
       (λ q. omega (arith, n s, f.fit.once s, ap (λ (y : ℕ). hit y e.slot) q, hit_same e.slot)))
       h
 
-  pub crown : Wrote wd st (taking (fork d new near (fork d e none far)) c.more st) h (grown h next) w w₂
+  crown : Wrote wd st (taking (fork d new near (fork d e none far)) c.more st) h (grown h next) w w₂
   crown =
       let (m, hn, hf) = held_fork d (slots wd w) e near far held in
       record {
@@ -217,9 +219,21 @@ module _ {wd : ℕ} (wide : Width wd) (d : Side) {w w₁ w₂ : List ℕ} {h : H
             };
       }
 
+-- The old root's words and the new node's are there once the slot is filled.
+pub both_in : {wd : ℕ} {w w₁ : List ℕ} {h : Head} {t : Slot ℕ} → Somehow wd w h → 0 < h.free → Filled wd h.free t w w₁ → (h.root ≡ 0 → ⊥)
+    → Inside wd w₁ h.root × Inside wd w₁ h.free
+both_in (st, f, v) n t z = (inside_kept t.kept (root_in st.tree v (tree_stands f) (omega (arith, z))), inside_kept t.kept (free_there v f n).inside)
+
+pub chosen : (s : Side) (x e : Entry ℕ) (l r : Tree ℕ) → by_number x.key e.key ≡ toward s → with_root x (node e l r) ≡ new_root s x e l r
+chosen left x e l r o = rw o
+chosen right x e l r o = rw o
+
 -- What grow comes to: the new node alone, or beside the root.
-module _ {wd : ℕ} {w w₁ : List ℕ} {h : Head} {st : State ℕ} (wide : Width wd) (k v next : ℕ) (f : Headed wd w h st) (c : Free wd st w h)
+module _ {wd : ℕ} {w w₁ : List ℕ} {h : Head} {st : State ℕ} (wide : Width wd) {k v next : ℕ} (f : Headed wd w h st) (n : 0 < h.free)
     (en : next ≡ get_or w ((3 + wd) * h.free + 2) 0) (t : Filled wd h.free (record { key = k; value = v; left = 0; right = 0 }) w w₁) where
+  abbrev c : Free wd st w h
+  c = free_there wide f n
+
   abbrev fresh_entry : Entry ℕ
   fresh_entry = record { slot = c.slot; key = k; value = v }
 
@@ -236,35 +250,39 @@ module _ {wd : ℕ} {w w₁ : List ℕ} {h : Head} {st : State ℕ} (wide : Widt
   pub grew_first : h.root ≡ 0 → Grew wd k v st h w w₁ (grown h next)
   grew_first z = grew _ (ap (with_root fresh_entry) (no_link st.tree (sym f.root ∙ z))) (first_root k v next f c en t)
 
-  -- The old root's words are there, and its key is as it was.
-  pub old_root : 0 < h.root → (Inside wd w₁ h.root) × (Inside wd w₁ h.free) × ((s : ℕ) → h.root ≡ suc s → (slots wd w₁ s).key ≡ (slots wd w s).key)
-  old_root p = (
-    inside_kept t.kept (root_in st.tree wide (tree_stands f) p),
-    inside_kept t.kept c.inside,
-    λ s o. ap (λ (y : Slot ℕ). y.key) (t.elsewhere s (λ y. two s o y st.tree refl)),
-  )
+  -- The old root's key is as it was.
+  key_stays : (s : ℕ) → h.root ≡ suc s → (slots wd w₁ s).key ≡ (slots wd w s).key
+  key_stays s o = ap (λ (y : Slot ℕ). y.key) (t.elsewhere s (λ y. two y st.tree refl))
     where
-      two : (s : ℕ) → h.root ≡ suc s → h.free ≡ suc s → (u : Tree ℕ) → st.tree ≡ u → ⊥
-      two s o y none q = omega (arith, f.root, ap link_to q)
-      two s o y (node e l r) q =
+      two : h.free ≡ suc s → (u : Tree ℕ) → st.tree ≡ u → ⊥
+      two y none q = omega (arith, f.root, ap link_to q)
+      two y (node e l r) q =
           let z : c.slot ≡ e.slot = omega (arith, f.root, ap link_to q, c.first) in
           omega (arith, c.apart, ap (λ (i : ℕ). times i st.tree) z, ap (λ (y : Tree ℕ). times e.slot y) q, hit_same e.slot)
 
-  pub grew_beside : {w₂ : List ℕ} (d : Side) (j : ℕ) → 0 < h.root → KeyRead (slots wd w₁) h.root j → by_number k j ≡ toward d → w₂ ≡ crowned wd (off d) (off (other d)) w₁ h.root h.free
-      → Grew wd k v st h w w₂ (grown h next)
-  grew_beside {w₂} d j p ej o ew = by d st.tree refl o ew
-    where
-      key_is : (e : Entry ℕ) (l r : Tree ℕ) → st.tree ≡ node e l r → j ≡ e.key
-      key_is e l r q =
-          let hs : Holds (slots wd w) (node e l r) = subst (Holds (slots wd w)) q f.nodes in
-          ej e.slot (f.root ∙ ap link_to q) ∙ (old_root p).2 e.slot (f.root ∙ ap link_to q) ∙ ap (λ (y : Slot ℕ). y.key) hs.0
+  -- Beside the old root, with the key j, on the side on which the new key lies.
+  module _ {w₂ : List ℕ} {j : ℕ} (z : h.root ≡ 0 → ⊥) (ej : KeyRead (slots wd w₁) h.root j) where
+    grew_beside : (d : Side) → by_number k j ≡ toward d → w₂ ≡ crowned wd (off d) (off (other d)) w₁ h.root h.free → Grew wd k v st h w w₂ (grown h next)
+    grew_beside d o ew = by d st.tree refl o ew
+      where
+        key_is : (e : Entry ℕ) (l r : Tree ℕ) → st.tree ≡ node e l r → j ≡ e.key
+        key_is e l r q =
+            let hs : Holds (slots wd w) (node e l r) = subst (Holds (slots wd w)) q f.nodes in
+            ej e.slot (f.root ∙ ap link_to q) ∙ key_stays e.slot (f.root ∙ ap link_to q) ∙ ap (λ (y : Slot ℕ). y.key) hs.0
 
-      rooted_by : (s : Side) (e : Entry ℕ) (l r : Tree ℕ) → st.tree ≡ node e l r → by_number k j ≡ toward s
-          → with_root fresh_entry st.tree ≡ new_root s fresh_entry e l r
-      rooted_by left e l r q o = rw (q, ← key_is e l r q, o)
-      rooted_by right e l r q o = rw (q, ← key_is e l r q, o)
+        rooted_by : (s : Side) (e : Entry ℕ) (l r : Tree ℕ) → st.tree ≡ node e l r → by_number k j ≡ toward s
+            → with_root fresh_entry st.tree ≡ new_root s fresh_entry e l r
+        rooted_by s e l r q o = ap (with_root fresh_entry) q ∙ chosen s fresh_entry e l r (ap (by_number k) (sym (key_is e l r q)) ∙ o)
 
-      by : (s : Side) (u : Tree ℕ) → st.tree ≡ u → by_number k j ≡ toward s → w₂ ≡ crowned wd (off s) (off (other s)) w₁ h.root h.free → Grew wd k v st h w w₂ (grown h next)
-      by s none q o y = absurd (omega (arith, f.root, ap link_to q))
-      by left (node e l r) q o y = grew _ (rooted_by left e l r q o) (crown wide left k v next e l r f c q en t y)
-      by right (node e l r) q o y = grew _ (rooted_by right e l r q o) (crown wide right k v next e r l f c q en t y)
+        by : (s : Side) (u : Tree ℕ) → st.tree ≡ u → by_number k j ≡ toward s → w₂ ≡ crowned wd (off s) (off (other s)) w₁ h.root h.free → Grew wd k v st h w w₂ (grown h next)
+        by s none q o y = absurd (z (f.root ∙ ap link_to q))
+        by left (node e l r) q o y = grew _ (rooted_by left e l r q o) (crown wide left k v next e l r f c q en t y)
+        by right (node e l r) q o y = grew _ (rooted_by right e l r q o) (crown wide right k v next e r l f c q en t y)
+
+    pub grew_left : k < j → w₂ ≡ crowned wd (off left) (off right) w₁ h.root h.free → Grew wd k v st h w w₂ (grown h next)
+    grew_left b = grew_beside left (order_from (toward left) k j b)
+
+    pub grew_right : Rootless wd k w h → j ≤ k → w₂ ≡ crowned wd (off right) (off left) w₁ h.root h.free → Grew wd k v st h w w₂ (grown h next)
+    grew_right r b =
+        let o : h.root ≡ suc (h.root - 1) = omega (arith, z) in
+        grew_beside right (right_of k j (λ q. r _ o (q ∙ ej _ o ∙ key_stays _ o)) b)

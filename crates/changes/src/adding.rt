@@ -1,78 +1,77 @@
 // Insert: a slot leaves the free chain, and its node becomes the root.
 ghost use Rattle.std.specs.Prelude.{◌≡◌, ℕ, ◌<◌};
-ghost use Rattle.rules.specs.Edition.{edition, Spells};
+ghost use Rattle.rules.specs.Order.{other};
+ghost use Rattle.rules.specs.Edition.{edition};
 ghost use Rattle.rules.specs.Command.{insert};
 ghost use Rattle.rules.specs.Perform.{State, perform};
-ghost use Rattle.node.specs.Stands.{Inside};
+ghost use Rattle.node.specs.Stands.{off, side_of, Inside};
 ghost use Rattle.heads.specs.Headed.{Headed, Somehow, SomehowWith, Obeyed};
 ghost use Rattle.changes.specs.Grown.{Rootless, Grew, crowned};
 
-use heads::{Answer, Done, Head, bare, entry, rooted};
+use heads::{Answer, Code, Done, Head};
 use lookups::bring;
-use node::{fill, key_of, put, word};
+use node::{Key, Side, fill, key_of, link, put_link, put_value};
 
-// x, a node without children, becomes the root: it takes the child of the old root in the word p, and the old root into the word q.
-fn new_root(a: &mut [u32], width: usize, root: u32, x: u32, p: usize, q: usize)
-    requires { Inside width a.old root × Inside width a.old x × (p < 4) × (q < 4) }
-    ensures { a.new ≡ crowned width p q a.old root x }
+// x, a node without children, becomes the root: it takes the old root's child on that side, and the old root on the other.
+fn new_root<K: Key>(a: &mut [u32], root: u32, x: u32, side: Side)
+    requires { Inside K.WORDS a.old root × Inside K.WORDS a.old x }
+    ensures { a.new ≡ crowned K.WORDS (off (side_of side)) (off (other (side_of side))) a.old root x }
 {
-    let near = word(a, width, root, p);
-    put(a, width, x, p, near);
-    put(a, width, x, q, root);
-    put(a, width, root, p, 0);
+    let near = link::<K>(a, root, side);
+    put_link::<K>(a, x, side, near);
+    put_link::<K>(a, x, side.other(), root);
+    put_link::<K>(a, root, side, 0);
 }
 
 // A node for a key that is not there, in the first free slot, becomes the root, beside the old one.
-fn grow(a: &mut [u32], width: usize, head: Head, key: u64, value: u32) -> Head
-    requires somehow { Somehow width a.old head }
+fn grow<K: Key>(a: &mut [u32], head: Head, key: K, value: u32) -> Head
+    requires somehow { Somehow K.WORDS a.old head }
     requires free_nonzero { 0 < head.free }
-    requires spells { Spells width key }
-    ensures { (st : State ℕ) → Headed width a.old head st → Rootless width key a.old head →
-        Grew width key value st head a.old a.new result }
+    ensures { (st : State ℕ) → Headed K.WORDS a.old head st → Rootless K.WORDS (K.number key) a.old head →
+        Grew K.WORDS (K.number key) value st head a.old a.new result }
 {
     let root = head.root;
     let x = head.free;
-    let next = word(a, width, x, 2);
+    let next = link::<K>(a, x, Side::Left);
     let h = Head {
         root: x,
         size: head.size + 1,
         free: next,
     };
-    fill(a, width, x, key, value, 0, 0);
+    fill(a, x, key, value, 0, 0);
     if root == 0 {
         return h;
     }
-    if key < key_of(a, width, root) {
-        new_root(a, width, root, x, 2, 3);
+    if key.number() < key_of::<K>(a, root).number() {
+        new_root::<K>(a, root, x, Side::Left);
         return h;
     }
-    new_root(a, width, root, x, 3, 2);
+    new_root::<K>(a, root, x, Side::Right);
     h
 }
 
 // 5 insert. There is room for `most` entries.
-pub fn insert(a: &mut [u32], width: usize, head: Head, most: u32, key: u64, value: u32) -> Done
-    requires somehow_with { SomehowWith width a.old head most }
-    requires spells { Spells width key }
-    ensures { (st : State ℕ) → Headed width a.old head st → st.slots ≡ most →
-        Obeyed width (perform (edition width) (insert key value) st) st a.old a.new result }
+pub fn insert<K: Key>(a: &mut [u32], head: Head, most: u32, key: K, value: u32) -> Done<K>
+    requires { SomehowWith K.WORDS a.old head most }
+    ensures { (st : State ℕ) → Headed K.WORDS a.old head st → st.slots ≡ most →
+        Obeyed K.number K.WORDS (perform (edition K.WORDS) (insert (K.number key) value) st) st a.old a.new result }
 {
-    let m = bring(a, width, head.root, key);
-    let h = rooted(head, m.root);
+    let m = bring(a, head.root, key);
+    let h = head.rooted(m.root);
     if m.here {
-        let r = entry(a, width, m.root, 3, m.count);
-        put(a, width, m.root, 1, value);
+        let r = Answer::entry(a, m.root, Code::Replaced, m.count);
+        put_value::<K>(a, m.root, value);
         return Done { answer: r, head: h };
     }
     if h.size == most {
         return Done {
-            answer: bare(5, m.count),
+            answer: Answer::bare(Code::Full, m.count),
             head: h,
         };
     }
-    let g = grow(a, width, h, key, value);
+    let g = grow(a, h, key, value);
     let r = Answer {
-        code: 2,
+        code: Code::New,
         key,
         value: 0,
         count: m.count,

@@ -4,72 +4,69 @@ ghost use Rattle.rules.specs.Edition.{edition};
 ghost use Rattle.rules.specs.Command.{remove};
 ghost use Rattle.rules.specs.Perform.{State, perform, taken};
 ghost use Rattle.rules.specs.Arena.{free_slot};
-ghost use Rattle.node.specs.Stands.{side_of, Sided, Inside, Filled};
+ghost use Rattle.node.specs.Stands.{side_of, Inside, Filled};
 ghost use Rattle.heads.specs.Headed.{Headed, Somehow, Obeyed};
 
-use heads::{Answer, Done, Head, bare, entry, rooted};
+use heads::{Answer, Code, Done, Head};
 use lookups::bring;
-use node::{M, fill, word};
+use node::{Key, M, Side, fill, link};
 use splay::{raise_end, without_root};
 
 // The slot of x becomes the first of the free chain.
-fn free_slot(a: &mut [u32], width: usize, head: Head, x: u32) -> Head
-    requires inside { Inside width a.old x }
+fn free_slot<K: Key>(a: &mut [u32], head: Head, x: u32) -> Head
+    requires inside { Inside K.WORDS a.old x }
     requires size_nonzero { 0 < head.size }
-    ensures filled { Filled width x (free_slot (edition width) head.free) a.old a.new }
+    ensures filled { Filled K.WORDS x (free_slot (edition K.WORDS) head.free) a.old a.new }
     ensures value { result ≡ record { root = head.root; size = head.size - 1; free = x } }
 {
-    fill(a, width, x, 0, 0, head.free, M);
+    fill(a, x, K::zero(), 0, head.free, M);
     Head {
-        root: head.root,
         size: head.size - 1,
         free: x,
+        ..head
     }
 }
 
 // 6 remove.
-pub fn remove(a: &mut [u32], width: usize, head: Head, key: u64) -> Done
-    requires { Somehow width a.old head }
-    ensures { (st : State ℕ) → Headed width a.old head st →
-        Obeyed width (perform (edition width) (remove key) st) st a.old a.new result }
+pub fn remove<K: Key>(a: &mut [u32], head: Head, key: K) -> Done<K>
+    requires { Somehow K.WORDS a.old head }
+    ensures { (st : State ℕ) → Headed K.WORDS a.old head st →
+        Obeyed K.number K.WORDS (perform (edition K.WORDS) (remove (K.number key)) st) st a.old a.new result }
 {
-    let m = bring(a, width, head.root, key);
+    let m = bring(a, head.root, key);
     if !m.here {
         return Done {
-            answer: bare(1, m.count),
-            head: rooted(head, m.root),
+            answer: Answer::bare(Code::Absent, m.count),
+            head: head.rooted(m.root),
         };
     }
     let root = m.root;
-    let old = entry(a, width, root, 4, m.count);
-    let t = without_root(a, width, root, key);
-    let h = free_slot(a, width, rooted(head, t.root), root);
+    let old = Answer::entry(a, root, Code::Removed, m.count);
+    let t = without_root(a, root, key);
+    let h = free_slot::<K>(a, head.rooted(t.root), root);
     let r = Answer {
-        code: 4,
-        key: old.key,
-        value: old.value,
         count: m.count + (t.count as u32),
+        ..old
     };
     Done { answer: r, head: h }
 }
 
-// 9 take first, where p is 2 and q 3; 10 take last, where p is 3 and q 2.
-pub fn take(a: &mut [u32], width: usize, head: Head, p: usize, q: usize) -> Done
-    requires somehow { Somehow width a.old head }
-    requires sided { Sided p q }
-    ensures { (st : State ℕ) → Headed width a.old head st →
-        Obeyed width (taken (edition width) (side_of p) st.tree st) st a.old a.new result }
+// 9 take first, on the left; 10 take last, on the right.
+pub fn take<K: Key>(a: &mut [u32], head: Head, side: Side) -> Done<K>
+    requires { Somehow K.WORDS a.old head }
+    ensures { (st : State ℕ) → Headed K.WORDS a.old head st →
+        Obeyed K.number K.WORDS (taken (edition K.WORDS) (side_of side) st.tree st) st a.old a.new result }
 {
     let root = head.root;
     if root == 0 {
         return Done {
-            answer: bare(1, 0),
+            answer: Answer::bare(Code::Absent, 0),
             head,
         };
     }
-    let x = raise_end(a, width, root, p, q);
-    let far = word(a, width, x, q);
-    let r = entry(a, width, x, 4, 0);
-    let h = free_slot(a, width, rooted(head, far), x);
+    let x = raise_end::<K>(a, root, side);
+    let far = link::<K>(a, x, side.other());
+    let r = Answer::entry(a, x, Code::Removed, 0);
+    let h = free_slot::<K>(a, head.rooted(far), x);
     Done { answer: r, head: h }
 }
