@@ -1,12 +1,11 @@
 -- An arena as a state under a head, its words 1 to 3: what a command leaves there, with the head's words stored, is the outcome's arena.
 -- And a tree whose slots are not among those of a command stands as it did.
 use mathlib.Core.List.{List}
-use mathlib.Core.Path.{◌≡◌, refl, sym, ap, ◌∙◌}
+use mathlib.Core.Path.{◌≡◌, refl, sym, ◌∙◌}
 use Prim.Native.Nat.{ℕ, zero, suc, ◌+◌, ◌*◌, ◌≤◌, ◌<◌}
 use native.Mathlib.Nat.{mul-le-mul_left}
 use native.Mathlib.Omega.{arith}
-use lib.ListN.{length, get_or, set, length-set}
-use lib.Seq.{get_or-set_same, get_or-set_other}
+use lib.ListN.{length}
 use Rattle.rules.specs.Edition.{edition, Width}
 use Rattle.rules.specs.Command.{Command}
 use Rattle.rules.specs.Tree.{Tree, size, times}
@@ -24,12 +23,9 @@ use Rattle.heads.specs.declared.head.Head.{Head}
 use Rattle.heads.specs.declared.head.Done.{Done}
 use Rattle.heads.specs.Did.{Did, Fair}
 use Rattle.heads.specs.Headed.{Headed, Obeyed, slots_of}
-use Rattle.heads.proofs.Settle.{settle, header_slots}
+use Rattle.heads.proofs.Settle.{settle}
 use Rattle.heads.proofs.Heads.{tree_stands}
-
--- The head of an arena.
-abbrev pub head_of : List ℕ → Head
-head_of w = record { root = get_or w 1 0; size = get_or w 2 0; free = get_or w 3 0 }
+use Rattle.commands.proofs.Header.{head_of, with_head, head_words, head_length, head_slots}
 
 module _ {wd : ℕ} {w : List ℕ} {st : State ℕ} (f : WellFormed (edition wd) w st) where
   -- The header's words are there.
@@ -50,46 +46,22 @@ module _ {wd : ℕ} {w : List ℕ} {st : State ℕ} (f : WellFormed (edition wd)
         fit = sound_fit (edition wd) (sound (edition wd) f);
       }
 
-  pub arena_did : (c : Command ℕ) (w₁ w₂ : List ℕ) (d : Done) → Fair wd w w₂ → Obeyed wd (perform (edition wd) c st) st w w₁ d
-      → w₂ ≡ set (set (set w₁ 1 d.head.root) 2 d.head.size) 3 d.head.free → Did wd (perform (edition wd) c st) w w₂ d.answer
-  arena_did c w₁ w₂ d y p e =
+  pub arena_did : {K : Type 0} {number : K → ℕ} (c : Command ℕ) {w₁ : List ℕ} {d : Done K} → Fair wd w (with_head w₁ d.head)
+      → Obeyed number wd (perform (edition wd) c st) st w w₁ d → Did number wd (perform (edition wd) c st) w (with_head w₁ d.head) d.answer
+  arena_did c {w₁} {d} y p =
       let o = perform (edition wd) c st in
-      let x : List ℕ = set w₁ 1 d.head.root in
-      let z : List ℕ = set x 2 d.head.size in
-      let len : length w₁ ≡ length w = p.only.kept.len in
-      let lx : length x ≡ length w₁ = length-set w₁ 1 d.head.root in
-      let lz : length z ≡ length x = length-set x 2 d.head.size in
-      let same : (s : ℕ) → slots wd w₂ s ≡ slots wd w₁ s
-      = λ s. ap (λ (u : List ℕ). slots wd u s) e
-      ∙ header_slots wd z 3 d.head.free (omega arith) s
-      ∙ header_slots wd x 2 d.head.size (omega arith) s
-      ∙ header_slots wd w₁ 1 d.head.root (omega arith) s in
-      let word : (i : ℕ) → get_or w₂ i 0 ≡ get_or (set z 3 d.head.free) i 0 = λ i. ap (λ (u : List ℕ). get_or u i 0) e in
+      let w₂ : List ℕ = with_head w₁ d.head in
+      let words = head_words w₁ d.head (omega (arith, header_in, p.only.kept.len)) in
+      let same : (s : ℕ) → slots wd w₂ s ≡ slots wd w₁ s = head_slots wd w₁ d.head in
       let n : o.state.slots ≡ st.slots = perform_slots (edition wd) c st in
       let s =
       settle w w₂ y o.state (rw n f.long) (perform_sound (edition wd) (edition_lawful y.width) c st (sound (edition wd) f))
       (record {
-        len = ap length e ∙ length-set z 3 d.head.free ∙ lz ∙ lx ∙ len;
-        slot_count =
-            word 0
-            ∙ get_or-set_other z 3 0 d.head.free 0 (omega arith)
-            ∙ get_or-set_other x 2 0 d.head.size 0 (omega arith)
-            ∙ get_or-set_other w₁ 1 0 d.head.root 0 (omega arith)
-            ∙ p.only.kept.header 0 (omega arith)
-            ∙ f.slots
-            ∙ sym n;
-        root =
-            word 1
-            ∙ get_or-set_other z 3 1 d.head.free 0 (omega arith)
-            ∙ get_or-set_other x 2 1 d.head.size 0 (omega arith)
-            ∙ get_or-set_same w₁ 1 d.head.root 0 (omega (arith, header_in))
-            ∙ p.headed.root;
-        live =
-            word 2
-            ∙ get_or-set_other z 3 2 d.head.free 0 (omega arith)
-            ∙ get_or-set_same x 2 d.head.size 0 (omega (arith, header_in))
-            ∙ p.headed.live;
-        first = word 3 ∙ get_or-set_same z 3 d.head.free 0 (omega (arith, header_in)) ∙ p.headed.first;
+        len = head_length w₁ d.head ∙ p.only.kept.len;
+        slot_count = words.0 ∙ p.only.kept.header 0 (omega arith) ∙ f.slots ∙ sym n;
+        root = words.1 ∙ p.headed.root;
+        live = words.2 ∙ p.headed.live;
+        first = words.3 ∙ p.headed.first;
         nodes = holds_frame (slots wd w₂) (slots wd w₁) o.state.tree (λ s b. same s) p.headed.nodes;
         chain = chained_frame (edition wd) (slots wd w₂) (slots wd w₁) o.state.free (λ s b. same s) p.headed.chain;
         beyond = λ s b. (let b' : st.slots ≤ s = omega arith in same s ∙ p.only.same s (omega (arith, f.within s b', f.chain_within s b')));
@@ -109,8 +81,8 @@ other_stands {wd} {w} {w'} st t c off h =
 
 -- Another state on the same chain, whose tree has no slot of the state st: a command on st leaves it as it was, under its head with the
 -- chain's new first link, if there is still room.
-module _ {wd : ℕ} {w w' : List ℕ} {h g : Head} {st u : State ℕ} {d : Done} (c : Command ℕ) (v : Width wd) (m : Moving c)
-    (f : Headed wd w h st) (b : Headed wd w g u) (apart : (s : ℕ) → times s u.tree + slots_of st s ≤ 1) (o : Obeyed wd (perform (edition wd) c st) st w w' d) where
+module _ {K : Type 0} {number : K → ℕ} {wd : ℕ} {w w' : List ℕ} {h g : Head} {st u : State ℕ} {d : Done K} (c : Command ℕ) (v : Width wd) (m : Moving c)
+    (f : Headed wd w h st) (b : Headed wd w g u) (apart : (s : ℕ) → times s u.tree + slots_of st s ≤ 1) (o : Obeyed number wd (perform (edition wd) c st) st w w' d) where
   abbrev pub to : State ℕ
   to = (perform (edition wd) c st).state
 

@@ -7,26 +7,26 @@ mod making;
 mod obeying;
 
 ghost use Rattle.std.specs.Prelude.{ℕ};
-ghost use Rattle.rules.specs.Edition.{edition, Spells};
-ghost use Rattle.rules.specs.Command.{command};
+ghost use Rattle.rules.specs.Edition.{edition};
 ghost use Rattle.rules.specs.Perform.{State, perform};
 ghost use Rattle.rules.specs.Arena.{WellFormed};
+ghost use Rattle.heads.specs.Worded.{meant};
 ghost use Rattle.heads.specs.Did.{Formed, Did};
 
-pub use heads::{Answer, Done, Head, bare};
+pub use heads::{Answer, Code, Command, Done, Head, Refusal, returned};
 use making::clear;
 pub use making::fresh;
+use node::Key;
 pub use obeying::obey;
 
-// The command with that number.
-pub fn command(a: &mut [u32], width: usize, number: u32, key: u64, value: u32) -> Answer
-    requires formed { Formed width a.old }
-    requires spells { Spells width key }
-    ensures { (st : State ℕ) → WellFormed (edition width) a.old st →
-        Did width (perform (edition width) (command number key value) st) a.old a.new result }
+// Does the command.
+pub fn command<K: Key>(a: &mut [u32], command: Command<K>) -> Answer<K>
+    requires { Formed K.WORDS a.old }
+    ensures { (st : State ℕ) → WellFormed (edition K.WORDS) a.old st →
+        Did K.number K.WORDS (perform (edition K.WORDS) (meant K.number command) st) a.old a.new result }
 {
-    if number == 11 {
-        return clear(a, width);
+    if let Command::Clear = command {
+        return clear::<K>(a);
     }
     let n = a[0];
     let h = Head {
@@ -34,7 +34,7 @@ pub fn command(a: &mut [u32], width: usize, number: u32, key: u64, value: u32) -
         size: a[2],
         free: a[3],
     };
-    let d = obey(a, width, h, n, number, key, value);
+    let d = obey(a, h, n, command);
     let to = d.head;
     a[1] = to.root;
     a[2] = to.size;
