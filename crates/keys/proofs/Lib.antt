@@ -1,2 +1,3 @@
 -- Why a command and an answer for keys alone are those of the set.
-pub mod Reading
+pub mod Read
+pub mod Numbers

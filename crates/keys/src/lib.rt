@@ -1,38 +1,60 @@
-// How a set reads a command and words an answer. A key has no value there: an insert stores 0, an answer tells 0, and command 2, which
-// writes a value, is unknown.
+// How the map and the set read a command and word an answer. A key has no value in a set: an insert stores 0, an answer tells 0, and
+// command 2, which writes a value, is unknown.
 #![tactic(auto)]
 
-ghost use Rattle.std.specs.Prelude.{◌≡◌, ℕ};
-ghost use Rattle.rules.specs.Command as rules;
-ghost use Rattle.rules.specs.Reading.{as_set, read_as, answer_as};
-ghost use Rattle.heads.specs.Did.{Says};
-ghost use Rattle.keys.specs.Told.{number_for_keys, answer_for_keys};
+ghost use Rattle.std.specs.Prelude.{◌≡◌};
+ghost use Rattle.rules.specs.Reading.{as_set, read_as, set_command, value_as};
+ghost use Rattle.heads.specs.Worded.{code_of, meant};
+ghost use Rattle.keys.specs.Told.{reading};
 
-use heads::Answer;
+use heads::{Answer, Code, Command};
+use node::Key;
 
-// The number by which the map does what the set's command is, at value 0: the number itself, but 0 for 2.
-pub fn number(number: u32) -> u32
-    ensures { (result ≡ number_for_keys number)
-        × ((k v : ℕ) → rules.command result k 0 ≡ read_as as_set (rules.command number k v)) }
+#[derive(Clone, Copy, Debug, PartialEq, Eq)]
+pub enum Reading {
+    AsMap,
+    AsSet,
+}
+
+// The command by which the map does what the set's command is.
+fn of_set<K: Key>(command: Command<K>) -> Command<K>
+    ensures { meant K.number result ≡ set_command (meant K.number command) }
 {
-    if number == 2 {
-        return 0;
+    match command {
+        Command::Write(_, _) => Command::Unknown,
+        Command::Insert(key, _) => Command::Insert(key, 0),
+        other => other,
     }
-    number
 }
 
 // The map's answer as the set words it: the value is 0, but a COUNT's.
-pub fn answer(r: Answer) -> Answer
-    ensures { (result ≡ answer_for_keys r)
-        × ((wd : ℕ) (m : rules.Answer ℕ) → Says wd r m → Says wd result (answer_as as_set m)) }
+fn for_set<K: Key>(r: Answer<K>) -> Answer<K>
+    ensures { result ≡ record { code = r.code; key = r.key; value = value_as as_set (code_of r.code) r.value; count = r.count } }
 {
-    if r.code == 6 {
+    if r.code == Code::Count {
         return r;
     }
-    Answer {
-        code: r.code,
-        key: r.key,
-        value: 0,
-        count: r.count,
+    Answer { value: 0, ..r }
+}
+
+impl Reading {
+    // The command by which the map does what this command is.
+    pub fn command<K: Key>(self, command: Command<K>) -> Command<K>
+        ensures { meant K.number result ≡ read_as (reading self) (meant K.number command) }
+    {
+        match self {
+            Reading::AsMap => command,
+            Reading::AsSet => of_set(command),
+        }
+    }
+
+    // The map's answer in this reading's words.
+    pub fn answer<K: Key>(self, r: Answer<K>) -> Answer<K>
+        ensures { result ≡ record { code = r.code; key = r.key; value = value_as (reading self) (code_of r.code) r.value; count = r.count } }
+    {
+        match self {
+            Reading::AsMap => r,
+            Reading::AsSet => for_set(r),
+        }
     }
 }
