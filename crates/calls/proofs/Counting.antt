@@ -1,9 +1,8 @@
 -- Commands and answers counted in words, for either width of a key.
 use Prim.Native.Nat.{ℕ, suc, ◌+◌, ◌*◌, ◌/◌, ◌%◌, ◌≤◌, ◌<◌}
 use mathlib.Core.Path.{◌≡◌}
-use native.Mathlib.Nat.{mul-le-mul_left}
 use native.Mathlib.Omega.{arith}
-use Rattle.rules.specs.Edition.{most_slots, Width}
+use Rattle.rules.specs.Edition.{Width}
 use Rattle.rules.proofs.Order.{by_width}
 
 -- A whole command more.
@@ -29,10 +28,3 @@ room_for h =
 
 pub answers_next : {wd : ℕ} → Width wd → (n : ℕ) → (3 + wd) * suc n ≡ (3 + wd) * n + (3 + wd)
 answers_next h = by_width h (λ wd. (n : ℕ) → (3 + wd) * suc n ≡ (3 + wd) * n + (3 + wd)) (λ n. omega arith) (λ n. omega arith)
-
--- The words of an arena, and of the answers to a list, are far from too many to count.
-pub few_words : {wd n : ℕ} → Width wd → n ≤ most_slots → 4 + (3 + wd) * n < 65536
-few_words {wd} h l = omega (arith, h, mul-le-mul_left (3 + wd) l)
-
-pub few_answers : {wd : ℕ} → Width wd → (n : ℕ) → (3 + wd) * (n / (2 + wd)) ≤ 2 * n
-few_answers h = by_width h (λ wd. (n : ℕ) → (3 + wd) * (n / (2 + wd)) ≤ 2 * n) (λ n. omega arith) (λ n. omega arith)

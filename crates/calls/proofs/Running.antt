@@ -16,8 +16,8 @@ use Rattle.rules.specs.Reading.{Reading}
 use Rattle.rules.specs.Calls.{Ran, Performed, perform_as, perform_all, commands, commands_of, refusal, all_answers, run_on}
 use Rattle.rules.proofs.Order.{edition_lawful}
 use Rattle.rules.proofs.WellFormed.{the_state, the_words}
-use Rattle.rules.proofs.Words.{length_over, over_over}
-use Rattle.rules.proofs.Run.{perform_as_slots, perform_all_slots, perform_all_append, perform_all_length}
+use Rattle.rules.proofs.Words.{over_over}
+use Rattle.rules.proofs.Run.{perform_as_slots, perform_all_append, perform_all_length}
 use Rattle.calls.specs.Told.{Stepped, RanAll}
 use Rattle.calls.proofs.Counting.{one_more, next_count, next_whole, none_counted, room_for, answers_next}
 
@@ -108,12 +108,6 @@ module _ (wd : ℕ) (r : Reading) (list : List ℕ) (w₀ out₀ : List ℕ) whe
         ap length i.told
         ∙ (let q = length-append (all_answers (edition wd) (perform_all (edition wd) r i.done i.start).answers) (drop at out₀) in
         omega (arith, q, answers_so_far, length-drop at out₀, at_inside))
-
-    pub arena_length : length w ≡ length w₀
-    arena_length =
-        ap length i.words
-        ∙ length_over (edition wd) (edition_lawful i.width) (perform_all (edition wd) r i.done i.start).state w₀
-        (rw (perform_all_slots (edition wd) r i.done i.start) i.formed₀.long)
 
     -- There is a whole command left, and room for its answer.
     pub some_left : 0 < length rest → (2 + wd ≤ length rest) × (at + (3 + wd) ≤ length out)

@@ -1,21 +1,17 @@
--- Answers as words, how a list is read, and what a step and the steps of a run leave.
-use Rattle.std.specs.Prelude.{Bool, true, false, List, [], ◌∷◌, ◌++◌, ◌≡◌, ℕ, ◌+◌, ◌*◌, ◌/◌, length, drop}
+-- Answers as words, and what a step and the steps of a run leave.
+use Rattle.std.specs.Prelude.{List, [], ◌∷◌, ◌++◌, ◌≡◌, ℕ, ◌+◌, ◌*◌, ◌/◌, length, drop}
 use Rattle.rules.specs.Edition.{edition, spelled}
-use Rattle.rules.specs.Command.{Command, answer_words}
+use Rattle.rules.specs.Command.{Command, code_number, answer_words}
 use Rattle.rules.specs.Perform.{State}
 use Rattle.rules.specs.Arena.{WellFormed, over}
-use Rattle.rules.specs.Reading.{Reading, as_map, as_set}
+use Rattle.rules.specs.Reading.{Reading}
 use Rattle.rules.specs.Calls.{perform_as, perform_all, commands_of, all_answers}
 use Rattle.heads.specs.declared.answer.Answer.{Answer}
+use Rattle.heads.specs.Worded.{code_of}
 
 -- An answer's words, where its key takes so many.
-abbrev pub told : ℕ → Answer → List ℕ
-told wd r = r.code ∷ (spelled wd r.key ++ (r.value ∷ r.count ∷ []))
-
--- A list is read for keys alone, as the set reads it, or as the map does.
-abbrev pub reading : Bool → Reading
-reading true = as_set
-reading false = as_map
+abbrev pub told : {K : Type 0} → (K → ℕ) → ℕ → Answer K → List ℕ
+told number wd r = code_number (code_of r.code) ∷ (spelled wd (number r.key) ++ (r.value ∷ r.count ∷ []))
 
 -- One command is done, and its answer stands at the front of the lent words; those behind it stay.
 pub record Stepped (wd : ℕ) (r : Reading) (c : Command ℕ) (st : State ℕ) (w w' out out' : List ℕ) : Type 0 where

@@ -1,48 +1,52 @@
-// The calls over an arena whose keys take `width` words, one or two: making, one command, a run; for the map, or, where `keys` is true, for
-// the set. They assume nothing of any word that they are lent: what they cannot use they refuse, and then no word has changed. The crates
-// of the two editions give them to a caller, each with its own width.
+// The calls over an arena: making, one command, a run; for the map or for the set, as the reading says. They assume nothing of any word
+// that they are lent: what they cannot use they refuse, and then no word has changed.
 #![tactic(auto)]
 
 mod making;
 mod steps;
 
-ghost use Rattle.rules.specs.Edition.{edition, Width, Spells};
-ghost use Rattle.rules.specs.Calls.{One, Run};
-ghost use Rattle.calls.specs.Told.{reading, told};
+ghost use Rattle.rules.specs.Edition.{edition};
+ghost use Rattle.rules.specs.Calls.{Does, Run};
+ghost use Rattle.heads.specs.Worded.{meant, returned};
+ghost use Rattle.keys.specs.Told.{reading};
+ghost use Rattle.calls.specs.Told.{told};
 
-pub use commands::Answer;
-use commands::bare;
+pub use commands::{Answer, Code, Command, Refusal, returned};
 use formed::check;
+pub use keys::Reading;
 pub use making::make;
+pub use node::Key;
 
 // One command on an arena that is checked first.
-pub fn one(a: &mut [u32], width: usize, keys: bool, number: u32, key: u64, value: u32) -> Answer
-    requires { Width width × Spells width key }
-    ensures spells { Spells width result.key }
-    ensures one { One (edition width) (reading keys) number key value a.old
-        (record { answer = told width result; arena = a.new }) }
+pub fn one<K: Key>(a: &mut [u32], by: Reading, command: Command<K>) -> Answer<K>
+    ensures { Does (edition K.WORDS) (reading by) (meant K.number command) a.old
+        (record { answer = told K.number K.WORDS result; arena = a.new }) }
 {
-    if !check(a, width) {
-        return bare(12, 0);
+    if !check::<K>(a) {
+        return Answer::bare(Code::Damaged, 0);
     }
-    steps::command_as(a, width, keys, number, key, value)
+    steps::command_as(a, by, command)
 }
 
-// A run: the arena is checked once, then the commands are done in order; 0, or the code of the refusal.
-pub fn run(a: &mut [u32], width: usize, keys: bool, list: &[u32], answers: &mut [u32]) -> u32
-    requires { Width width }
-    ensures { Run (edition width) (reading keys) list.now a.old answers.old
-        (record { returned = result; arena = a.new; answers = answers.new }) }
+// A run: the arena is checked once, then the commands are done in order.
+pub fn run<K: Key>(
+    a: &mut [u32],
+    by: Reading,
+    list: &[u32],
+    answers: &mut [u32],
+) -> Result<(), Refusal>
+    ensures { Run (edition K.WORDS) (reading by) list.now a.old answers.old
+        (record { returned = returned result; arena = a.new; answers = answers.new }) }
 {
-    if !check(a, width) {
-        return 12;
+    if !check::<K>(a) {
+        return Err(Refusal::Damaged);
     }
-    if list.len() % (2 + width) != 0 {
-        return 13;
+    if list.len() % (2 + K::WORDS) != 0 {
+        return Err(Refusal::Ragged);
     }
-    if answers.len() < (3 + width) * (list.len() / (2 + width)) {
-        return 14;
+    if answers.len() < (3 + K::WORDS) * (list.len() / (2 + K::WORDS)) {
+        return Err(Refusal::NoRoom);
     }
-    steps::run_all(a, width, keys, list, answers);
-    0
+    steps::run_all::<K>(a, by, list, answers);
+    Ok(())
 }

@@ -1,25 +1,27 @@
 // Making an arena.
 ghost use Rattle.std.specs.Prelude.{◌≡◌};
-ghost use Rattle.rules.specs.Edition.{edition, Width};
+ghost use Rattle.rules.specs.Edition.{edition};
 ghost use Rattle.rules.specs.Calls.{make};
+ghost use Rattle.heads.specs.Worded.{returned};
 
-use commands::fresh;
+use commands::{Refusal, fresh};
+use node::Key;
 
-// A new arena of n slots in the lent words; 0, or the code of the refusal.
-pub fn make(a: &mut [u32], width: usize, n: u32) -> u32
-    requires { Width width }
-    ensures { (result ≡ (make (edition width) n a.old).returned)
-        × (a.new ≡ (make (edition width) n a.old).arena) }
+// A new arena of n slots in the lent words.
+#[tactic(auto, unfolding(rules::specs::Calls::make))]
+pub fn make<K: Key>(a: &mut [u32], n: u32) -> Result<(), Refusal>
+    ensures { (returned result ≡ (make (edition K.WORDS) n a.old).returned)
+        × (a.new ≡ (make (edition K.WORDS) n a.old).arena) }
 {
     if n == 0 {
-        return 10;
+        return Err(Refusal::Size);
     }
     if 4095 < n {
-        return 10;
+        return Err(Refusal::Size);
     }
-    if a.len() < 4 + (3 + width) * (n as usize) {
-        return 11;
+    if a.len() < 4 + (3 + K::WORDS) * (n as usize) {
+        return Err(Refusal::Short);
     }
-    fresh(a, width, n);
-    0
+    fresh::<K>(a, n);
+    Ok(())
 }

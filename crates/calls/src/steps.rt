@@ -1,73 +1,74 @@
-// A run, command by command, as the map reads the list; or, where `keys` is true, for keys alone, as the set reads it.
+// A run, command by command, as the reading has it.
 ghost use Rattle.std.specs.Prelude.{◌++◌, ◌≡◌, ℕ, ◌+◌, ◌*◌, ◌/◌, ◌%◌, ◌≤◌, length, drop};
-ghost use Rattle.rules.specs.Edition.{edition, Width, Spells};
-ghost use Rattle.rules.specs.Command as rules;
+ghost use Rattle.rules.specs.Edition.{edition};
 ghost use Rattle.rules.specs.Command.{command_at};
 ghost use Rattle.rules.specs.Perform.{State};
 ghost use Rattle.rules.specs.Arena.{WellFormed};
 ghost use Rattle.rules.specs.Calls.{perform_as};
 ghost use Rattle.heads.specs.Did.{Formed, Did};
-ghost use Rattle.calls.specs.Told.{reading, told, Stepped, RanAll};
+ghost use Rattle.heads.specs.Worded.{meant};
+ghost use Rattle.keys.specs.Told.{reading};
+ghost use Rattle.calls.specs.Told.{told, Stepped, RanAll};
 
-use commands::{Answer, command};
-use node::{key_at, put_key_at};
+use commands::{Answer, Command, command};
+use keys::Reading;
+use node::Key;
 
 // One command, read in that way.
-pub fn command_as(
-    a: &mut [u32],
-    width: usize,
-    keys: bool,
-    number: u32,
-    key: u64,
-    value: u32,
-) -> Answer
-    requires { Formed width a.old × Spells width key }
-    ensures { (st : State ℕ) → WellFormed (edition width) a.old st →
-        Did width (perform_as (edition width) (reading keys) (rules.command number key value) st) a.old a.new result }
+pub fn command_as<K: Key>(a: &mut [u32], by: Reading, asked: Command<K>) -> Answer<K>
+    requires { Formed K.WORDS a.old }
+    ensures { (st : State ℕ) → WellFormed (edition K.WORDS) a.old st →
+        Did K.number K.WORDS (perform_as (edition K.WORDS) (reading by) (meant K.number asked) st) a.old a.new result }
 {
-    if keys {
-        return keys::answer(command(a, width, keys::number(number), key, 0));
-    }
-    command(a, width, number, key, value)
+    by.answer(command(a, by.command(asked)))
+}
+
+// The command that a list of words begins with.
+fn first_of<K: Key>(list: &[u32]) -> Command<K>
+    requires { 2 + K.WORDS ≤ length list.now }
+    ensures { meant K.number result ≡ command_at (edition K.WORDS) list.now }
+{
+    Command::numbered(list[0], K::at(list, 1), list[1 + K::WORDS])
 }
 
 // The answer's words at the front of the lent words; those behind it stay.
-fn put_answer(out: &mut [u32], width: usize, r: Answer)
-    requires { Width width × Spells width r.key × (3 + width ≤ length out.old) }
-    ensures { out.new ≡ told width r ++ drop (3 + width) out.old }
+fn put_answer<K: Key>(out: &mut [u32], r: Answer<K>)
+    requires { 3 + K.WORDS ≤ length out.old }
+    ensures { out.new ≡ told K.number K.WORDS r ++ drop (3 + K.WORDS) out.old }
 {
-    out[0] = r.code;
-    put_key_at(out, width, 1, r.key);
-    out[1 + width] = r.value;
-    out[2 + width] = r.count;
+    out[0] = u32::from(r.code);
+    r.key.put_at(out, 1);
+    out[1 + K::WORDS] = r.value;
+    out[2 + K::WORDS] = r.count;
 }
 
 // The first command of the list, its answer at the front of the lent words.
-fn step(a: &mut [u32], width: usize, keys: bool, list: &[u32], out: &mut [u32])
-    requires formed { Formed width a.old }
-    requires room { (2 + width ≤ length list.now) × (3 + width ≤ length out.old) }
-    ensures { (st : State ℕ) → WellFormed (edition width) a.old st →
-        Stepped width (reading keys) (command_at (edition width) list.now) st
+#[tactic(auto, using(crate::proofs::Called::stepped))]
+fn step<K: Key>(a: &mut [u32], by: Reading, list: &[u32], out: &mut [u32])
+    requires formed { Formed K.WORDS a.old }
+    requires room { (2 + K.WORDS ≤ length list.now) × (3 + K.WORDS ≤ length out.old) }
+    ensures { (st : State ℕ) → WellFormed (edition K.WORDS) a.old st →
+        Stepped K.WORDS (reading by) (command_at (edition K.WORDS) list.now) st
         a.old a.new out.old out.new }
 {
-    let key = key_at(list, width, 1);
-    let r = command_as(a, width, keys, list[0], key, list[1 + width]);
-    put_answer(out, width, r);
+    let r = command_as(a, by, first_of::<K>(list));
+    put_answer(out, r);
 }
 
 // The commands of the list in order. Each turn takes the first command and passes on the rest of the list, and lends on the answer words
-// from the next answer's place, so that no turn can reach an answer that was given before.
-pub fn run_all(a: &mut [u32], width: usize, keys: bool, list: &[u32], answers: &mut [u32])
-    requires formed { Formed width a.old }
-    requires room { (length list.now % (2 + width) ≡ 0) × ((3 + width) * (length list.now / (2 + width)) ≤ length answers.old) }
-    ensures { (st : State ℕ) → WellFormed (edition width) a.old st →
-        RanAll width (reading keys) list.now st a.old a.new answers.old answers.new }
+// from the next answer's place, so that no turn can reach an answer that was given before. (This form was asked for: docs/DECISIONS.md
+// says so under Language forms.)
+pub fn run_all<K: Key>(a: &mut [u32], by: Reading, list: &[u32], answers: &mut [u32])
+    requires formed { Formed K.WORDS a.old }
+    requires room { (length list.now % (2 + K.WORDS) ≡ 0) × ((3 + K.WORDS) * (length list.now / (2 + K.WORDS)) ≤ length answers.old) }
+    ensures { (st : State ℕ) → WellFormed (edition K.WORDS) a.old st →
+        RanAll K.WORDS (reading by) list.now st a.old a.new answers.old answers.new }
 {
     let mut rest = list;
     let mut at = 0;
     'rest: while 0 < rest.len() {
-        step(a, width, keys, rest, &mut answers[at..]);
-        rest = &rest[2 + width..];
-        at += 3 + width;
+        step::<K>(a, by, rest, &mut answers[at..]);
+        rest = &rest[2 + K::WORDS..];
+        at += 3 + K::WORDS;
     }
 }
