@@ -10,6 +10,7 @@ use native.Mathlib.Omega.{arith}
 use lib.Dec.{eqb}
 use lib.ListN.{length}
 use borrow.Author.Tests.{ne_eqb, eqb-true, eqb-false}
+use Rattle.std.specs.Prelude.{Result, Ok, Err}
 use Rattle.rules.specs.Order.{Side, left, right, Order, equal, toward, by_order}
 use Rattle.rules.specs.Edition.{edition, Width}
 use Rattle.rules.specs.Command.{Command, get, insert, remove, Code, FOUND, ABSENT, NEW, REPLACED, REMOVED, FULL, COUNT, DAMAGED, Reply, Answer, code_number, bare, answer_words, command}
@@ -18,17 +19,21 @@ use Rattle.rules.specs.Tree.{entries}
 use Rattle.rules.specs.Perform.{State}
 use Rattle.rules.specs.Arena.{WellFormed}
 use Rattle.rules.specs.Reading.{as_set, read_as}
-use Rattle.rules.specs.Calls.{Replied, Checked, well_formed, damaged, One, perform_as, perform_all, one_on, one_refused}
+use Rattle.rules.specs.Calls.{Replied, Does, well_formed, damaged, One, perform_as, perform_all}
 use Rattle.rules.proofs.Order.{edition_lawful, self}
 use Rattle.rules.proofs.WellFormed.{sound, the_state, one_outcome}
 use Rattle.rules.proofs.Run.{perform_as_live}
+use Rattle.heads.specs.Worded.{code_of}
 use Rattle.heads.specs.declared.answer.Answer as machine
 use Rattle.calls.specs.Told.{told}
-use Rattle.calls.proofs.Called.{code_said, value_said}
+use Rattle.calls.proofs.Called.{value_said}
+use Rattle.calls.proofs.Codes.{same_code, code_said}
 use Rattle.members.specs.Asked.{was_of, Asks, Told}
 use Rattle.members.specs.Members.{Among, SaysIn, member, no_member, SaysStored, was_there, no_room, is_new}
 use Rattle.members.specs.declared.Was.{Was}
 use Rattle.members.specs.declared.Was.TheVariants as is
+use Rattle.members.specs.declared.Refused.{Refused}
+use Rattle.members.specs.declared.Refused.TheVariants as refused
 
 module _ {wd : ℕ} (width : Width wd) where
   -- What looking for a key finds.
@@ -99,61 +104,67 @@ module _ {wd : ℕ} (width : Width wd) where
     unfolding reply
     insert_says v = stored_through (λ c. c) (reply_code f (insert k v)) (stored_code _ refl (finds k (entries st.tree)))
 
-  -- What a call for one command answers on a well-formed arena.
-  answered : {w w' : List ℕ} {st : State ℕ} (r : machine.Answer) → WellFormed (edition wd) w st → (c : Command ℕ)
-      → Checked (edition wd) w (one_on (edition wd) as_set c w) (one_refused (edition wd) w) (record { answer = told wd r; arena = w' })
-      → told wd r ≡ answer_words (edition wd) (perform_as (edition wd) as_set c st).answer
-  answered r f c (well_formed st' g q) =
-      ap (λ (x : Replied). x.answer) q
-      ∙ ap (λ (s : State ℕ). answer_words (edition wd) (perform_as (edition wd) as_set c s).answer) (the_state (edition wd) g f)
-  answered {st = st} r f c (damaged d q) = absurd (d st f)
-
-  -- And what a call about one key tells.
-  tells : {w w' : List ℕ} {st : State ℕ} {x : Was} → WellFormed (edition wd) w st → (c : Command ℕ)
-      → Asks wd c w (record { was = x; arena = w' }) → x ≡ was_of (code_number (perform_as (edition wd) as_set c st).answer.code)
+  -- What a call about one key tells on a well-formed arena.
+  tells : {w w' : List ℕ} {st : State ℕ} {x : Result Was Refused} → WellFormed (edition wd) w st → (c : Command ℕ)
+      → Asks wd c w (record { was = x; arena = w' }) → x ≡ was_of (perform_as (edition wd) as_set c st).answer.code
   tells f c (well_formed st' g q) =
       ap (λ (t : Told). t.was) q
-      ∙ ap (λ (s : State ℕ). was_of (code_number (perform_as (edition wd) as_set c s).answer.code)) (the_state (edition wd) g f)
+      ∙ ap (λ (s : State ℕ). was_of (perform_as (edition wd) as_set c s).answer.code) (the_state (edition wd) g f)
   tells {st = st} f c (damaged d q) = absurd (d st f)
 
-  -- The same of what `one` promises of its answer r, and `contains`, `remove` and `insert` of theirs.
-  module _ {w w' : List ℕ} {st : State ℕ} (f : WellFormed (edition wd) w st) (k : ℕ) where
-    pub one_get : (r : machine.Answer) (v : ℕ) → One (edition wd) as_set 1 k v w (record { answer = told wd r; arena = w' })
-        → SaysIn k st (code_number FOUND) (code_number ABSENT) r.code
-    one_get r v h = through code_number (code_said wd r (perform_as (edition wd) as_set (get k) st).answer (answered r f (get k) h)) (get_says f k)
+  -- What `contains`, `remove` and `insert` promise says whether the key is in the set.
+  module _ {w w' : List ℕ} {st : State ℕ} (f : WellFormed (edition wd) w st) (k : ℕ) {x : Result Was Refused} where
+    pub contains_tells : Asks wd (get k) w (record { was = x; arena = w' }) → SaysIn k st (Ok is.There) (Ok is.Absent) x
+    contains_tells h = through was_of (tells f (get k) h) (get_says f k)
 
-    pub one_insert : (r : machine.Answer) (v : ℕ) → One (edition wd) as_set 5 k v w (record { answer = told wd r; arena = w' })
-        → SaysStored k st (code_number REPLACED) (code_number FULL) (code_number NEW) r.code
-    one_insert r v h = stored_through code_number (code_said wd r (perform_as (edition wd) as_set (insert k v) st).answer (answered r f (insert k v) h)) (insert_says f k v)
+    pub insert_tells : Asks wd (insert k 0) w (record { was = x; arena = w' }) → SaysStored k st (Ok is.There) (Err refused.Full) (Ok is.Absent) x
+    insert_tells h = stored_through was_of (tells f (insert k 0) h) (insert_says f k 0)
 
-    pub one_remove : (r : machine.Answer) (v : ℕ) → One (edition wd) as_set 6 k v w (record { answer = told wd r; arena = w' })
-        → SaysIn k st (code_number REMOVED) (code_number ABSENT) r.code
-    one_remove r v h = through code_number (code_said wd r (perform_as (edition wd) as_set (remove k) st).answer (answered r f (remove k) h)) (remove_says f k)
+    pub remove_tells : Asks wd (remove k) w (record { was = x; arena = w' }) → SaysIn k st (Ok is.There) (Ok is.Absent) x
+    remove_tells h = through was_of (tells f (remove k) h) (remove_says f k)
 
-    module _ {x : Was} where
-      pub contains_tells : Asks wd (get k) w (record { was = x; arena = w' }) → SaysIn k st is.There is.Absent x
-      contains_tells h = through (λ c. was_of (code_number c)) (tells f (get k) h) (get_says f k)
-
-      pub insert_tells : Asks wd (insert k 0) w (record { was = x; arena = w' }) → SaysStored k st is.There is.Full is.Absent x
-      insert_tells h = stored_through (λ c. was_of (code_number c)) (tells f (insert k 0) h) (insert_says f k 0)
-
-      pub remove_tells : Asks wd (remove k) w (record { was = x; arena = w' }) → SaysIn k st is.There is.Absent x
-      remove_tells h = through (λ c. was_of (code_number c)) (tells f (remove k) h) (remove_says f k)
-
-  -- No answer has a value but COUNT's: of one command, refused or not, and of a run.
+  -- No command's answer has a value but COUNT's.
   pub no_value : (c : Command ℕ) (st : State ℕ) → (code_number (perform_as (edition wd) as_set c st).answer.code ≡ code_number COUNT → ⊥)
       → (perform_as (edition wd) as_set c st).answer.value ≡ 0
   unfolding perform_as
   no_value c st d = rw (ne_eqb _ _ d)
 
-  pub one_no_value : {w w' : List ℕ} (r : machine.Answer) (n k v : ℕ) → One (edition wd) as_set n k v w (record { answer = told wd r; arena = w' })
-      → (r.code ≡ code_number COUNT → ⊥) → r.value ≡ 0
-  one_no_value r n k v (well_formed st f q) d =
-      let m = (perform_as (edition wd) as_set (command n k v) st).answer in
-      let e = answered r f (command n k v) (well_formed st f q) in
-      value_said r m width e ∙ no_value (command n k v) st (λ z. d (code_said wd r m e ∙ z))
-  one_no_value r n k v (damaged f q) d = value_said r (bare (edition wd) DAMAGED 0) width (ap (λ (x : Replied). x.answer) q)
+  -- The same of what `one` promises of its answer r, whose key is any that has a number.
+  module _ {K : Type 0} (number : K → ℕ) where
+    -- What a call for one command answers on a well-formed arena.
+    answered : {w w' : List ℕ} {st : State ℕ} (r : machine.Answer K) → WellFormed (edition wd) w st → (c : Command ℕ)
+        → Does (edition wd) as_set c w (record { answer = told number wd r; arena = w' })
+        → told number wd r ≡ answer_words (edition wd) (perform_as (edition wd) as_set c st).answer
+    answered r f c (well_formed st' g q) =
+        ap (λ (x : Replied). x.answer) q
+        ∙ ap (λ (s : State ℕ). answer_words (edition wd) (perform_as (edition wd) as_set c s).answer) (the_state (edition wd) g f)
+    answered {st = st} r f c (damaged d q) = absurd (d st f)
 
+    module _ {w w' : List ℕ} {st : State ℕ} (f : WellFormed (edition wd) w st) (k : ℕ) (r : machine.Answer K) (v : ℕ) where
+      pub one_get : One (edition wd) as_set 1 k v w (record { answer = told number wd r; arena = w' }) → SaysIn k st FOUND ABSENT (code_of r.code)
+      one_get h =
+          through (λ c. c) (code_said number wd r (perform_as (edition wd) as_set (get k) st).answer (answered r f (get k) h)) (get_says f k)
+
+      pub one_insert : One (edition wd) as_set 5 k v w (record { answer = told number wd r; arena = w' })
+          → SaysStored k st REPLACED FULL NEW (code_of r.code)
+      one_insert h =
+          stored_through (λ c. c) (code_said number wd r (perform_as (edition wd) as_set (insert k v) st).answer (answered r f (insert k v) h))
+          (insert_says f k v)
+
+      pub one_remove : One (edition wd) as_set 6 k v w (record { answer = told number wd r; arena = w' })
+          → SaysIn k st REMOVED ABSENT (code_of r.code)
+      one_remove h =
+          through (λ c. c) (code_said number wd r (perform_as (edition wd) as_set (remove k) st).answer (answered r f (remove k) h)) (remove_says f k)
+
+    pub one_no_value : {w w' : List ℕ} (r : machine.Answer K) (n k v : ℕ)
+        → One (edition wd) as_set n k v w (record { answer = told number wd r; arena = w' }) → (code_of r.code ≡ COUNT → ⊥) → r.value ≡ 0
+    one_no_value r n k v (well_formed st f q) d =
+        let m = (perform_as (edition wd) as_set (command n k v) st).answer in
+        let e = answered r f (command n k v) (well_formed st f q) in
+        value_said number r m width e ∙ no_value (command n k v) st (λ z. d (code_said number wd r m e ∙ same_code m.code COUNT z))
+    one_no_value r n k v (damaged f q) d = value_said number r (bare (edition wd) DAMAGED 0) width (ap (λ (x : Replied). x.answer) q)
+
+  -- And of the answers of a run.
   pub run_no_value : (cs : List (Command ℕ)) (st : State ℕ) (a : Answer ℕ) → Memᴰ a (perform_all (edition wd) as_set cs st).answers
       → (code_number a.code ≡ code_number COUNT → ⊥) → a.value ≡ 0
   unfolding perform_all

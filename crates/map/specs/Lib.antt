@@ -1,2 +1,0 @@
--- An answer of the map, in words.
-pub mod Told
