@@ -1,4 +1,4 @@
-// The two tables of the digits. `digit_table` and `byte_table` promise what they hold.
+// The two tables of the digits. `Digits` and `Bytes` promise what they hold.
 
 // What the table has for a byte that is no digit.
 pub const BAD: u8 = 16;

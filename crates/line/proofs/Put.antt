@@ -2,13 +2,14 @@
 -- Assumes nothing.
 use mathlib.Core.List.{List, [], ◌∷◌, ◌++◌, append-nil, append_assoc}
 use mathlib.Core.Path.{◌≡◌, refl, sym, ◌∙◌, ap}
-use Prim.Native.Nat.{ℕ, ◌+◌, ◌*◌, ◌/◌, ◌%◌}
+use Prim.Native.Nat.{ℕ, ◌+◌, ◌*◌, ◌<◌}
+use native.Mathlib.Numerals.{add-one}
 use native.Mathlib.Omega.{arith}
-use lib.ListN.{length, set, drop, length-append, drop_of_length-le}
-use lib.Seq.{sets, sets-eq}
-use Rattle.rules.specs.Edition.{edition, word_values, Width}
+use lib.ListN.{length, get_or, set, take, drop, length-append, length-take, drop_of_length-le}
+use lib.Seq.{sets, sets-eq, take-suc}
+use Rattle.rules.specs.Edition.{edition, Width}
 use Rattle.rules.specs.Lines.{spelled, all_spelled, newline}
-use Rattle.rules.proofs.Order.{edition_lawful}
+use Rattle.rules.proofs.Order.{by_width, edition_lawful}
 use Rattle.digits.proofs.Spelled.{sets_append, spelled_length}
 use Rattle.line.specs.Write.{line_of_words}
 
@@ -35,17 +36,24 @@ words_behind l at us vs to e =
     let place : to ≡ at + length (all_spelled us) = omega (arith, all_spelled_length us) in
     rw (place, all_spelled_append us vs, sets_append (all_spelled us) (all_spelled vs) l at)
 
--- A key of one word, and of two.
-module _ {wd : ℕ} (l : List ℕ) (at k : ℕ) where
-  pub key_put_one : wd ≡ 1 → sets l at (spelled 8 k) ≡ sets l at (all_spelled ((edition wd).spell k))
-  key_put_one e = rw (e, alone k)
+-- No word of a list.
+pub none_put : (l : List ℕ) (at : ℕ) → sets l at (all_spelled []) ≡ l
+unfolding all_spelled
+none_put l at = refl
 
-  pub key_put_two : wd ≡ 2
-      → sets (sets l at (spelled 8 (k / word_values))) (at + 8) (spelled 8 (k % word_values))
-      ≡ sets l at (all_spelled ((edition wd).spell k))
-  key_put_two e =
-      rw (e, alone (k / word_values), alone (k % word_values))
-      (words_behind l at (k / word_values ∷ []) (k % word_values ∷ []) (at + 8) (omega arith))
+-- One word more of a list, behind those before it.
+pub word_put : (l ws : List ℕ) (at i : ℕ) → i < length ws
+    → sets (sets l at (all_spelled (take i ws))) (at + 8 * i) (spelled 8 (get_or ws i 0)) ≡ sets l at (all_spelled (take (i + 1) ws))
+word_put l ws at i h =
+    rw (alone (get_or ws i 0), add-one, take-suc ws i 0 h)
+    (words_behind l at (take i ws) (get_or ws i 0 ∷ []) (at + 8 * i) (omega (arith, length-take i ws)))
+
+-- A key's words, where it stands in two.
+pub key_words : {wd : ℕ} → Width wd → (k : ℕ) → take wd (sets (0 ∷ 0 ∷ []) 0 ((edition wd).spell k)) ≡ (edition wd).spell k
+key_words h k = by_width h (λ wd. take wd (sets (0 ∷ 0 ∷ []) 0 ((edition wd).spell k)) ≡ (edition wd).spell k) refl refl
+
+-- What the proof of the loop that writes a key needs.
+pub ruleset key_writing = (none_put, word_put, key_words)
 
 -- The words of an answer, one after the other, and the newline: a line.
 pub line_put : {wd : ℕ} → Width wd → (l : List ℕ) (at c k v n : ℕ)
@@ -69,16 +77,11 @@ line_put {wd} h l at c k v n =
     omega (arith, all_spelled_length (c ∷ (s ++ (v ∷ n ∷ []))), length-append s (v ∷ n ∷ [])) in
     rw (one, two, three, same, end) (sym (sets_append all (newline ∷ []) l at))
 
-pub line_length : {wd : ℕ} → Width wd → (c k v n : ℕ) → length (line_of_words wd c k v n) ≡ 8 * (3 + wd) + 1
-line_length {wd} h c k v n =
-    simp (length-append, all_spelled_length)
-    (omega (arith, length-append ((edition wd).spell k) (v ∷ n ∷ []), (edition_lawful h).spell_length k))
-
 -- A line that is written over all of the bytes is all that stands there.
-pub nothing_else : {wd : ℕ} → Width wd → (l : List ℕ) (c k v n : ℕ) → length l ≡ 8 * (3 + wd) + 1
-    → sets l 0 (line_of_words wd c k v n) ≡ line_of_words wd c k v n
-nothing_else {wd} h l c k v n e =
-    let all = line_of_words wd c k v n in
-    let long = line_length h c k v n in
+pub nothing_else : (l ws : List ℕ) → length l ≡ 8 * length ws + 1
+    → sets l 0 (all_spelled ws ++ (newline ∷ [])) ≡ all_spelled ws ++ (newline ∷ [])
+nothing_else l ws e =
+    let all : List ℕ = all_spelled ws ++ (newline ∷ []) in
+    let long : length all ≡ length l = simp (length-append, all_spelled_length) (omega arith) in
     let none : drop (0 + length all) l ≡ [] = drop_of_length-le l {i = 0 + length all} (omega arith) in
     sets-eq all l 0 (omega arith) ∙ rw none (append-nil all)

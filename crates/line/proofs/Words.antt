@@ -4,24 +4,21 @@ use mathlib.Core.Path.{◌≡◌, refl, sym, ◌∙◌, ap}
 use mathlib.Core.Bool.{Bool, true, false}
 use mathlib.Core.List.{List, [], ◌∷◌, ◌++◌}
 use mathlib.Core.Option.{Option, none as nil, some}
-use Prim.Native.Nat.{ℕ, zero, suc, ◌+◌, ◌*◌, ◌≤◌}
+use Prim.Native.Nat.{ℕ, zero, suc, ◌+◌, ◌*◌, ◌≤◌, ◌<◌}
 use native.Mathlib.Omega.{arith}
 use lib.Dec.{eqb}
-use lib.ListN.{length, take, drop, length-take, length-drop, take-append-drop}
+use lib.ListN.{length, get_or, set, take, drop, length-set, length-take, length-drop, take-append-drop}
 use lib.Seq.{take_at, drop_at, drop-drop}
 use borrow.Author.Tests.{eq-eqb, ne_eqb}
+use Rattle.std.proofs.lemmas.Grind.{common_steps}
+use Rattle.std.specs.Prelude.{Option as Perhaps, Some, None}
 use Rattle.rules.specs.Order.{choose}
-use Rattle.rules.specs.Edition.{edition, Width}
+use Rattle.rules.specs.Edition.{edition, key_in, Width}
 use Rattle.rules.specs.Lines.{digit, digits, and_then, words_from, command_of, line_command}
 use Rattle.rules.proofs.Order.{by_width}
 use Rattle.digits.specs.Read.{word_from}
-use Rattle.digits.specs.declared.Word.{Word}
-use Rattle.digits.specs.declared.Word.TheVariants as word
-use Rattle.line.specs.Read.{word_at, key_of_one, key_of_two, key_from, words_of, line_words, line_of, meant, SpellsLine, Reads}
-use Rattle.line.specs.declared.Line.{Line}
-use Rattle.line.specs.declared.Line.TheVariants as line
-use Rattle.line.specs.declared.Key.{Key}
-use Rattle.line.specs.declared.Key.TheVariants as key
+use Rattle.line.specs.Read.{word_at, key_of_two, key_from, words_of, line_words, line_of, worded, meant, Reads}
+use Rattle.line.specs.declared.request.Request.{Request}
 
 -- The digits of two parts, if both hold nothing else.
 abbrev joined : Option (List ℕ) → Option (List ℕ) → Option (List ℕ)
@@ -61,10 +58,10 @@ digits_sized [] = refl
 digits_sized (b ∷ l) = sized_more (length l) (digit b) (digits l) (digits_sized l)
 
 -- A word before others, if all of them were read.
-abbrev before : Word → Option (List ℕ) → Option (List ℕ)
-before word.Bad ws = nil
-before (word.Number w) nil = nil
-before (word.Number w) (some ws) = some (w ∷ ws)
+abbrev before : Perhaps ℕ → Option (List ℕ) → Option (List ℕ)
+before None ws = nil
+before (Some w) nil = nil
+before (Some w) (some ws) = some (w ∷ ws)
 
 first_word : (n : ℕ) (ds es : Option (List ℕ)) → Sized 8 ds
     → words_of (suc n) (joined ds es) ≡ before (word_from 0 ds) (words_of n es)
@@ -101,42 +98,62 @@ read_one_by_one (suc n) at l e =
     next_word n at l (omega arith) ∙ ap (before (word_at l at)) (read_one_by_one n (at + 8) l (omega arith))
 
 -- Number, key and value, if all were read.
-abbrev pub told : Word → Key → Word → Line
-told word.Bad k v = line.Bad
-told (word.Number n) key.Bad v = line.Bad
-told (word.Number n) (key.Number k) word.Bad = line.Bad
-told (word.Number n) (key.Number k) (word.Number v) = line.Command n k v
+abbrev pub told : Perhaps ℕ → Perhaps ℕ → Perhaps ℕ → Perhaps (Request ℕ)
+told None k v = None
+told (Some n) None v = None
+told (Some n) (Some k) None = None
+told (Some n) (Some k) (Some v) = Some (record { number = n; key = k; value = v })
 
-told_one : (u v w : Word) → line_of 1 (before u (before v (before w (some [])))) ≡ told u (key_of_one v) w
-told_one word.Bad v w = refl
-told_one (word.Number u) word.Bad w = refl
-told_one (word.Number u) (word.Number v) word.Bad = refl
-told_one (word.Number u) (word.Number v) (word.Number w) = refl
+told_one : (u v w : Perhaps ℕ) → line_of 1 (before u (before v (before w (some [])))) ≡ told u v w
+told_one None v w = refl
+told_one (Some u) None w = refl
+told_one (Some u) (Some v) None = refl
+told_one (Some u) (Some v) (Some w) = refl
 
-told_two : (u v w x : Word) → line_of 2 (before u (before v (before w (before x (some []))))) ≡ told u (key_of_two v w) x
-told_two word.Bad v w x = refl
-told_two (word.Number u) word.Bad w x = refl
-told_two (word.Number u) (word.Number v) word.Bad x = refl
-told_two (word.Number u) (word.Number v) (word.Number w) word.Bad = refl
-told_two (word.Number u) (word.Number v) (word.Number w) (word.Number x) = refl
+told_two : (u v w x : Perhaps ℕ) → line_of 2 (before u (before v (before w (before x (some []))))) ≡ told u (key_of_two v w) x
+told_two None v w x = refl
+told_two (Some u) None w x = refl
+told_two (Some u) (Some v) None x = refl
+told_two (Some u) (Some v) (Some w) None = refl
+told_two (Some u) (Some v) (Some w) (Some x) = refl
 
--- The key, once its words are known. Without its low word there is none.
-module _ {wd : ℕ} (l : List ℕ) where
-  pub key_one : wd ≡ 1 → {v : Word} → word_at l (8 * wd) ≡ v → key_from wd l ≡ key_of_one v
-  key_one o e = rw o (ap key_of_one (rw o at e))
+no_low : (v : Perhaps ℕ) → key_of_two v None ≡ None
+no_low None = refl
+no_low (Some v) = refl
 
-  pub key_two : wd ≡ 2 → {v w : Word} → word_at l 8 ≡ v → word_at l (8 * wd) ≡ w → key_from wd l ≡ key_of_two v w
-  key_two o e f = rw o (rw (e, rw o at f))
+missing_one : (l : List ℕ) (i : ℕ) → i < 1 → word_at l (8 + 8 * i) ≡ None → word_at l 8 ≡ None
+missing_one l zero b e = e
+missing_one l (suc i) b e = absurd (omega arith)
 
-no_low : (v : Word) → key_of_two v word.Bad ≡ key.Bad
-no_low word.Bad = refl
-no_low (word.Number v) = refl
+missing_two : (l : List ℕ) (i : ℕ) → i < 2 → word_at l (8 + 8 * i) ≡ None → key_of_two (word_at l 8) (word_at l 16) ≡ None
+missing_two l zero b e = rw e
+missing_two l (suc zero) b e = rw e (no_low (word_at l 8))
+missing_two l (suc (suc i)) b e = absurd (omega arith)
 
-pub no_key : {wd : ℕ} → Width wd → (l : List ℕ) → word_at l (8 * wd) ≡ word.Bad → key_from wd l ≡ key.Bad
-no_key h l =
-    by_width h (λ wd. word_at l (8 * wd) ≡ word.Bad → key_from wd l ≡ key.Bad) (λ e. rw e) (λ e. rw e (no_low (word_at l 8)))
+-- The first i words of the key are read, of at most two.
+pub record Far (l ws : List ℕ) (i : ℕ) : Type 0 where
+  pub room : length ws ≡ 2
+  pub word : (j : ℕ) → j < i → word_at l (8 + 8 * j) ≡ Some (get_or ws j 0)
+
+pub not_begun : (l : List ℕ) → Far l (0 ∷ 0 ∷ []) 0
+not_begun l = record { room = refl; word = λ j b. absurd (omega arith) }
+
+pub farther : {wd i w : ℕ} → Width wd → (l ws : List ℕ) → i < wd → word_at l (8 + 8 * i) ≡ Some w → Far l ws i
+    → Far l (set ws i w) (i + 1)
+farther h l ws b e f =
+    record { room = length-set ws _ _ ∙ f.room; word = λ j c. grind (arith, common_steps, f.word j) }
 
 module _ {wd : ℕ} (h : Width wd) (l : List ℕ) where
+  -- The key, once all of its words are read; and where one of them is missing.
+  pub key_read : (ws : List ℕ) → Far l ws wd → Some (key_in wd ws 0) ≡ key_from wd l
+  key_read ws =
+      by_width h (λ wd. Far l ws wd → Some (key_in wd ws 0) ≡ key_from wd l)
+      (λ f. sym (f.word 0 (omega arith))) (λ f. rw (f.word 0 (omega arith), f.word 1 (omega arith)))
+
+  pub no_key : (i : ℕ) → i < wd → word_at l (8 + 8 * i) ≡ None → None ≡ key_from wd l
+  no_key i b e =
+      sym (by_width h (λ wd. i < wd → word_at l (8 + 8 * i) ≡ None → key_from wd l ≡ None) (missing_one l i) (missing_two l i) b e)
+
   -- A line of as many bytes as a command has says what its words say, and any other says nothing.
   all_read : length l ≡ 8 * (2 + wd) → line_of wd (one_by_one l 0 (2 + wd)) ≡ told (word_at l 0) (key_from wd l) (word_at l (8 + 8 * wd))
   all_read e =
@@ -149,25 +166,37 @@ module _ {wd : ℕ} (h : Width wd) (l : List ℕ) where
   long_line e =
       rw (eq-eqb (length l) (8 * (2 + wd)) e) (ap (line_of wd) (read_one_by_one (2 + wd) 0 l (omega arith)) ∙ all_read e)
 
-  other_line : (length l ≡ 8 * (2 + wd) → ⊥) → line_of wd (line_words wd l) ≡ line.Bad
+  other_line : (length l ≡ 8 * (2 + wd) → ⊥) → line_of wd (line_words wd l) ≡ None
   unfolding line_words
   other_line n = rw (ne_eqb (length l) (8 * (2 + wd)) n)
 
   meant_at : (fits : Bool) (ds : Option (List ℕ))
-      → meant (line_of wd (choose fits (words_of (2 + wd) ds) nil)) ≡ choose fits (command_of (edition wd) ds) nil
+      → meant (λ k. k) (line_of wd (choose fits (words_of (2 + wd) ds) nil)) ≡ choose fits (command_of (edition wd) ds) nil
   meant_at true nil = refl
   meant_at true (some ds) = refl
   meant_at false ds = refl
 
-  -- The words that were read determine the command that the rules give the line.
-  read : (r : Line) → r ≡ line_of wd (line_words wd l) → SpellsLine wd r → Reads wd l r
-  unfolding line_words line_command
-  read r e f = record { words = e; command = ap meant e ∙ meant_at (eqb (length l) (8 * (2 + wd))) (digits l); fits = f }
+  module _ {K : Type 0} (number : K → ℕ) where
+    meant_worded : (r : Perhaps (Request K)) → meant number r ≡ meant (λ k. k) (worded number r)
+    meant_worded None = refl
+    meant_worded (Some r) = refl
 
-  -- What is returned of a line that is too short or too long; and where it is neither, from its words as far as they were read.
-  pub unsaid : (length l ≡ 8 * (2 + wd) → ⊥) → Reads wd l line.Bad
-  unsaid n = read line.Bad (sym (other_line n)) tt
+    -- The words that were read determine the command that the rules give the line.
+    read : (r : Perhaps (Request K)) → worded number r ≡ line_of wd (line_words wd l) → Reads number wd l r
+    unfolding line_words line_command
+    read r e =
+        record {
+          words = e;
+          command = meant_worded r ∙ ap (meant (λ k. k)) e ∙ meant_at (eqb (length l) (8 * (2 + wd))) (digits l);
+        }
 
-  pub said : {n v : Word} {k : Key} → length l ≡ 8 * (2 + wd) → word_at l 0 ≡ n → key_from wd l ≡ k → word_at l (8 + 8 * wd) ≡ v
-      → SpellsLine wd (told n k v) → Reads wd l (told n k v)
-  said {n} {v} {k} e en ek ev f = read (told n k v) (sym (long_line e ∙ rw (en, ek, ev))) f
+    -- What is returned of a line that is too short or too long; and of one that is neither, from its words.
+    pub unsaid : (length l ≡ 8 * (2 + wd) → ⊥) → Reads number wd l None
+    unsaid n = read None (sym (other_line n))
+
+    pub said : (r : Perhaps (Request K)) → length l ≡ 8 * (2 + wd)
+        → worded number r ≡ told (word_at l 0) (key_from wd l) (word_at l (8 + 8 * wd)) → Reads number wd l r
+    said r e t = read r (t ∙ sym (long_line e))
+
+-- What the proof of the loop that reads a key needs.
+pub ruleset key_reading = (not_begun, key_read, no_key)

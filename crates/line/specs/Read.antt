@@ -1,69 +1,55 @@
 -- How a line that was read stands for what the rules say of its bytes.
-use Rattle.std.specs.Prelude.{List, ◌≡◌, ℕ, zero, suc, ◌+◌, ◌*◌, eqb, length, get_or, take, drop}
-use Rattle.std.proofs.Math.Option.{Option, none as nil, some}
+use Rattle.std.specs.Prelude.{List, ◌≡◌, ℕ, zero, suc, ◌+◌, ◌*◌, eqb, length, get_or, take, drop, Option, Some, None}
+use Rattle.std.proofs.Math.Option as rules
+use Rattle.std.proofs.Math.Option.{none as nil, some}
 use Rattle.rules.specs.Order.{choose}
-use Rattle.rules.specs.Edition.{edition, key_in, word_values, Spells}
-use Rattle.rules.specs.Command.{command, command_size}
-use Rattle.rules.specs.Command as rules
+use Rattle.rules.specs.Edition.{edition, key_in, word_values}
+use Rattle.rules.specs.Command.{Command, command, command_size}
 use Rattle.rules.specs.Lines.{digits, words_from, line_command}
-use Rattle.digits.specs.declared.Word.{Word}
-use Rattle.digits.specs.declared.Word.TheVariants as word
 use Rattle.digits.specs.Read.{word_from}
-use Rattle.line.specs.declared.Line.{Line}
-use Rattle.line.specs.declared.Line.TheVariants as line
-use Rattle.line.specs.declared.Key.{Key}
-use Rattle.line.specs.declared.Key.TheVariants as key
+use Rattle.line.specs.declared.request.Request.{Request}
 
 -- The eight bytes from a place on, as a word.
-abbrev pub word_at : List ℕ → ℕ → Word
+abbrev pub word_at : List ℕ → ℕ → Option ℕ
 word_at l at = word_from 0 (digits (take 8 (drop at l)))
 
--- A key of one word, and of two, if all were read.
-abbrev pub key_of_one : Word → Key
-key_of_one word.Bad = key.Bad
-key_of_one (word.Number w) = key.Number w
-
-abbrev pub key_of_two : Word → Word → Key
-key_of_two word.Bad low = key.Bad
-key_of_two (word.Number high) word.Bad = key.Bad
-key_of_two (word.Number high) (word.Number low) = key.Number (word_values * high + low)
+-- A key of two words, if both were read.
+abbrev pub key_of_two : Option ℕ → Option ℕ → Option ℕ
+key_of_two None low = None
+key_of_two (Some high) None = None
+key_of_two (Some high) (Some low) = Some (word_values * high + low)
 
 -- The key in a line: its second word, or its second and third, the high one first.
-abbrev pub key_from : ℕ → List ℕ → Key
-key_from zero l = key.Bad
-key_from (suc zero) l = key_of_one (word_at l 8)
+abbrev pub key_from : ℕ → List ℕ → Option ℕ
+key_from zero l = None
+key_from (suc zero) l = word_at l 8
 key_from (suc (suc n)) l = key_of_two (word_at l 8) (word_at l 16)
 
--- A key that was read can be spelled.
-abbrev pub SpellsKey : ℕ → Key → Type 0
-SpellsKey wd key.Bad = Unit {0}
-SpellsKey wd (key.Number k) = Spells wd k
-
-abbrev pub words_of : ℕ → Option (List ℕ) → Option (List ℕ)
+abbrev pub words_of : ℕ → rules.Option (List ℕ) → rules.Option (List ℕ)
 words_of n nil = nil
 words_of n (some ds) = some (words_from n ds)
 
 -- The words of a line that holds exactly the digits of a command.
-unfoldable pub line_words : ℕ → List ℕ → Option (List ℕ)
+unfoldable pub line_words : ℕ → List ℕ → rules.Option (List ℕ)
 line_words wd l = choose (eqb (length l) (8 * command_size (edition wd))) (words_of (command_size (edition wd)) (digits l)) nil
 
 -- Number, key and value of a line, if it has them.
-abbrev pub line_of : ℕ → Option (List ℕ) → Line
-line_of wd nil = line.Bad
-line_of wd (some ws) = line.Command (get_or ws 0 0) (key_in wd ws 1) (get_or ws (1 + wd) 0)
+abbrev pub line_of : ℕ → rules.Option (List ℕ) → Option (Request ℕ)
+line_of wd nil = None
+line_of wd (some ws) = Some (record { number = get_or ws 0 0; key = key_in wd ws 1; value = get_or ws (1 + wd) 0 })
 
--- The command that a line asks for.
-abbrev pub meant : Line → Option (rules.Command ℕ)
-meant line.Bad = nil
-meant (line.Command n k v) = some (command n k v)
+module _ {K : Type 0} (number : K → ℕ) where
+  -- The same words, with the key as a number.
+  abbrev pub worded : Option (Request K) → Option (Request ℕ)
+  worded None = None
+  worded (Some r) = Some (record { number = r.number; key = number r.key; value = r.value })
 
--- The key of a command can be spelled in so many words.
-abbrev pub SpellsLine : ℕ → Line → Type 0
-SpellsLine wd line.Bad = Unit {0}
-SpellsLine wd (line.Command n k v) = Spells wd k
+  -- The command that a line asks for.
+  abbrev pub meant : Option (Request K) → rules.Option (Command ℕ)
+  meant None = nil
+  meant (Some r) = some (command r.number (number r.key) r.value)
 
--- What was read from a line: its words, one by one, and with them the command that the rules give it.
-pub record Reads (wd : ℕ) (l : List ℕ) (r : Line) : Type 0 where
-  pub words : r ≡ line_of wd (line_words wd l)
-  pub command : meant r ≡ line_command (edition wd) l
-  pub fits : SpellsLine wd r
+  -- What was read from a line: its words, one by one, and with them the command that the rules give it.
+  pub record Reads (wd : ℕ) (l : List ℕ) (r : Option (Request K)) : Type 0 where
+    pub words : worded r ≡ line_of wd (line_words wd l)
+    pub command : meant r ≡ line_command (edition wd) l

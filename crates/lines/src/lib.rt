@@ -1,38 +1,45 @@
-// Lines of the tags edition, whose keys take one word: a command from exactly 24 digits, an answer as 32 digits and a newline, and a stream
-// of such lines. What is public here takes anything. The work is done by `line` and `flow`, for any width.
+// Lines of either edition, by the type of its keys: a command from exactly 24 digits (u32) or 32 (u64), an answer as 32 or 40 digits and a
+// newline, and a stream of such lines. What is public here takes anything. The work is done by `line` and `flow`.
+// (Calls of one line each: they are the public names, and edits that must fail aim at them.)
 #![tactic(auto)]
 
-ghost use Rattle.std.specs.Prelude.{◌≡◌, [], ◌∷◌, ◌++◌};
+ghost use Rattle.std.specs.Prelude.{◌≡◌, [], ◌∷◌, ◌++◌, ◌/◌, ◌%◌};
+ghost use Rattle.rules.specs.Edition.{word_values};
 ghost use Rattle.rules.specs.Lines.{all_spelled, newline};
-ghost use Rattle.lines.specs.Read.{Reads};
+ghost use Rattle.line.specs.Read.{Reads};
 
 pub mod stream;
 
 pub use digits::digit;
+pub use heads::Refusal;
+pub use line::Request;
 use line::{read, write_answer};
+pub use node::Key;
 
-// What a line says: number, key and value of a command, or nothing.
-#[derive(Clone, Copy)]
-pub enum Line {
-    Command(u32, u32, u32),
-    Bad,
-}
-
-// What the line says: the three words of exactly 24 digits, and of anything else that it is bad.
-pub fn read_line(bytes: &[u8]) -> Line
-    ensures { Reads bytes.now result }
+// What the line says: the words of exactly so many digits as a command has, and of anything else nothing.
+pub fn read_line<K: Key>(bytes: &[u8]) -> Option<Request<K>>
+    ensures { Reads K.number K.WORDS bytes.now result }
 {
-    let line::Line::Command(number, key, value) = read(1, bytes) else {
-        return Line::Bad;
-    };
-    Line::Command(number, key as u32, value)
+    read::<K>(bytes)
 }
 
-// The line of an answer.
+// The line of an answer whose key is one word; the code may be any word. It and the next are two functions, because Rattle has no array
+// whose length is computed from a type's constant.
+#[tactic(auto, using(line::proofs::Put::nothing_else))]
 pub fn answer_line(code: u32, key: u32, value: u32, count: u32) -> [u8; 33]
     ensures { result ≡ all_spelled (code ∷ key ∷ value ∷ count ∷ []) ++ (newline ∷ []) }
 {
     let mut out = [0u8; 33];
-    write_answer(1, &mut out, 0, code, key as u64, value, count);
+    write_answer::<u32>(&mut out, 0, code, key, value, count);
+    out
+}
+
+// The line of an answer whose key is two words, the high one first; the code may be any word.
+#[tactic(auto, using(line::proofs::Put::nothing_else))]
+pub fn answer_line64(code: u32, key: u64, value: u32, count: u32) -> [u8; 41]
+    ensures { result ≡ all_spelled (code ∷ key / word_values ∷ key % word_values ∷ value ∷ count ∷ []) ++ (newline ∷ []) }
+{
+    let mut out = [0u8; 41];
+    write_answer::<u64>(&mut out, 0, code, key, value, count);
     out
 }

@@ -1,2 +1,0 @@
--- What the contracts of this crate say of a line that was read.
-pub mod Read
