@@ -18,7 +18,7 @@ use Rattle.rules.proofs.Order.{Lawful}
 use Rattle.rules.proofs.WellFormed.{sound, the_state, the_words}
 use Rattle.rules.proofs.Words.{over_formed}
 use Rattle.flow.specs.declared.Pending.{Pending}
-use Rattle.flow.specs.Stream.{line_size, no_line, held, ended, state_after, taking, After, fed_with, feeding, Feeds, closing}
+use Rattle.flow.specs.Stream.{line_size, no_line, held, ended, state_after, taking, Given, served, fed_of, fed_with, feeding, Feeds, closing}
 use Rattle.flow.proofs.Pieces.{ended_append, state_slots, state_sound}
 use Rattle.flow.proofs.Took.{Took, took_own, both}
 use Rattle.flow.proofs.Alike.{same_answers, same_state, no_line_alike, whole_lines}
@@ -28,16 +28,17 @@ module _ {K : Type 0} (ed : Edition K) where
   -- arena's words to others, with the bytes that they took and the bytes that they wrote.
   pub data Calls : Pending → List ℕ → List ℕ → List ℕ → Pending → List ℕ → Type 0 where
     none : {p : Pending} {w : List ℕ} → Calls p w [] [] p w
-    call : {p p' : Pending} {w w' taken written : List ℕ} (input out : List ℕ) (given : After) → Feeds ed p input out w given
-        → Calls given.returned.pending given.arena taken written p' w'
-        → Calls p w (take given.returned.read input ++ taken) (take given.returned.written given.out ++ written) p' w'
+    call : {p p' : Pending} {w w' taken written : List ℕ} (input out : List ℕ) (given : Given) → Feeds ed p input out w given
+        → Calls (fed_of p given.returned).pending given.arena taken written p' w'
+        → Calls p w (take (fed_of p given.returned).read input ++ taken) (take (fed_of p given.returned).written given.out ++ written) p' w'
 
   -- A well-formed arena is served.
-  served : (p : Pending) (input out : List ℕ) {w : List ℕ} {given : After} {st : State K} → WellFormed ed w st
+  pub it_served : (p : Pending) (input out : List ℕ) {w : List ℕ} {given : Given} {st : State K} → WellFormed ed w st
       → Feeds ed p input out w given
-      → given ≡ feeding ed p input out w st
-  served p input out {w} f (well_formed st' f' e) = e ∙ ap (feeding ed p input out w) (the_state ed f' f)
-  served p input out {st = st} f (damaged no_state e) = absurd (no_state st f)
+      → given ≡ served (feeding ed p input out w st)
+  it_served p input out {w} f (well_formed st' f' e) =
+      e ∙ ap (λ (st : State K). served (feeding ed p input out w st)) (the_state ed f' f)
+  it_served p input out {st = st} f (damaged no_state e) = absurd (no_state st f)
 
   -- With room for a line, the end of the input is taken.
   all_taken : (room : ℕ) (p : Pending) → line_size ed ≤ room → take (taking ed room (closing p)) (closing p) ≡ closing p
@@ -63,11 +64,11 @@ module _ {K : Type 0} (ed : Edition K) where
           formed = over_formed ed laws (state_sound ed laws ls st (sound ed f)) w (rw (state_slots ed ls st) f.long);
         }
 
-    one_took : (p : Pending) (input out : List ℕ) {w : List ℕ} {given : After} {st : State K} → WellFormed ed w st
+    one_took : (p : Pending) (input out : List ℕ) {w : List ℕ} {given : Given} {st : State K} → WellFormed ed w st
         → Feeds ed p input out w given
-        → Took ed p w st (take given.returned.read input) (take given.returned.written given.out) given.returned.pending
-        given.arena
-    one_took p input out {w} {st = st} f g = rw (served p input out f g) (one_call p input out w st f)
+        → Took ed p w st (take (fed_of p given.returned).read input) (take (fed_of p given.returned).written given.out)
+        (fed_of p given.returned).pending given.arena
+    one_took p input out {w} {st = st} f g = rw (it_served p input out f g) (one_call p input out w st f)
 
     -- From words that are those of their state.
     pub calls_took : {p p' : Pending} {w w' taken written : List ℕ} {st : State K} → Calls p w taken written p' w' → WellFormed ed w st
@@ -80,17 +81,17 @@ module _ {K : Type 0} (ed : Edition K) where
     -- THE THEOREM. On an arena newly made with n slots, whose words are words: calls of feed from no line on that take the input, and then
     -- finish with room for a line. What they wrote is the output of the rules, and the arena's words are those of the state that the lines
     -- leave.
-    pub cut : {w w' input written : List ℕ} {p : Pending} (n : ℕ) (out : List ℕ) (given : After) → ed.width ≤ 2 → Small w
+    pub cut : {w w' input written : List ℕ} {p : Pending} (n : ℕ) (out : List ℕ) (given : Given) → ed.width ≤ 2 → Small w
         → WellFormed ed w (new n) → Calls no_line w input written p w' → line_size ed ≤ length out → Feeds ed p (closing p) out w' given
-        → (written ++ take given.returned.written given.out ≡ output ed n input)
+        → (written ++ take (fed_of p given.returned).written given.out ≡ output ed n input)
         × (given.arena ≡ over ed (state_after ed (lines input) (new n)) w)
     unfolding output lines fed_with
     cut {w} {w'} {input} {written} {p} n out given short small f calls room g =
         let s = calls_took calls f (the_words ed laws w small f) in
-        let rest = take given.returned.read (closing p) in
+        let rest = take (fed_of p given.returned).read (closing p) in
         let t = both ed laws s (one_took p (closing p) out s.formed g) in
         let ended_so : rest ≡ closing (held ed no_line input) =
-        ap (λ (a : After). take a.returned.read (closing p)) (served p (closing p) out s.formed g)
+        ap (λ (a : Given). take (fed_of p a.returned).read (closing p)) (it_served p (closing p) out s.formed g)
         ∙ all_taken (length out) p room
         ∙ ap closing s.line in
         let same : ended ed no_line (input ++ rest) ≡ ended ed no_line input ++ ended ed (held ed no_line input)

@@ -9,7 +9,7 @@ use lib.ListN.{length, take, length-append, length-take}
 use lib.Seq.{take-append-le, sets}
 use borrow.Author.Tests.{ne_eqb}
 use Rattle.rules.specs.Edition.{Edition, edition, Width, Small}
-use Rattle.rules.specs.Command.{command}
+use Rattle.rules.specs.Command.{Command, code_number}
 use Rattle.rules.specs.Perform.{State, perform}
 use Rattle.rules.specs.Arena.{WellFormed, over}
 use Rattle.rules.specs.Lines.{line_command, answer_line}
@@ -17,6 +17,7 @@ use Rattle.rules.proofs.Order.{edition_lawful}
 use Rattle.rules.proofs.WellFormed.{the_words}
 use Rattle.heads.specs.Did.{Did}
 use Rattle.heads.specs.declared.answer.Answer.{Answer}
+use Rattle.heads.specs.Worded.{code_of}
 use Rattle.line.specs.Write.{line_of_words}
 use Rattle.flow.specs.declared.Pending.{Pending}
 use Rattle.flow.specs.Stream.{command_bytes, so_far, Answered}
@@ -51,13 +52,13 @@ module _ {wd : ℕ} (line : List ℕ) {st : State ℕ} {w out out' : List ℕ} {
   unfolding answer_line
   answered_bad e f own b = record { words = rw e own; formed = rw e f; bytes = rw e b }
 
-  pub answered_by : (n k v : ℕ) {w' : List ℕ} {r : Answer} → line_command (edition wd) line ≡ some (command n k v)
-      → Did wd (perform (edition wd) (command n k v) st) w w' r
-      → out' ≡ sets out at (line_of_words wd r.code r.key r.value r.count) → Answered (edition wd) line st w out at w' out'
+  pub answered_by : {K : Type 0} {number : K → ℕ} {c : Command ℕ} {w' : List ℕ} {r : Answer K} {code : ℕ}
+      → line_command (edition wd) line ≡ some c → Did number wd (perform (edition wd) c st) w w' r → code ≡ code_number (code_of r.code)
+      → out' ≡ sets out at (line_of_words wd code (number r.key) r.value r.count) → Answered (edition wd) line st w out at w' out'
   unfolding answer_line
-  answered_by n k v e d b =
+  answered_by e d q b =
       record {
         words = rw e d.words;
         formed = rw e d.formed;
-        bytes = rw e (b ∙ rw (d.says.code, d.says.key, d.says.value, d.says.count));
+        bytes = rw e (b ∙ rw (q, d.says.code, d.says.key, d.says.value, d.says.count));
       }

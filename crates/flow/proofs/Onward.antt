@@ -1,6 +1,5 @@
 -- Bytes taken one after the other: what several goes have done together, and that it is what a call owes once no byte or no room is left.
 -- Assumes nothing.
-use mathlib.Core.Bool.{true}
 use mathlib.Core.List.{List, [], ◌∷◌, ◌++◌, append_assoc}
 use mathlib.Core.Path.{◌≡◌, refl, ◌∙◌, ap}
 use Prim.Native.Nat.{ℕ, suc, ◌+◌, ◌-◌, ◌≤◌, ◌<◌, min}
@@ -37,7 +36,7 @@ module _ {K : Type 0} (ed : Edition K) where
   -- What the loop over the input has done, up to a place in it.
   pub record Reached (p : Pending) (input out w : List ℕ) (st : State K) (w' out' : List ℕ) (fed : Fed) : Type 0 where
     pub within : fed.read ≤ length input
-    pub so : Stepped ed st w (record { ok = true; pending = p; read = 0; written = 0 }) (take fed.read input) out w' out' fed
+    pub so : Stepped ed st w (record { pending = p; read = 0; written = 0 }) (take fed.read input) out w' out' fed
 
 module _ {K : Type 0} (ed : Edition K) (laws : Lawful ed) where
   -- What a go did, without its buffer.
@@ -53,7 +52,7 @@ module _ {K : Type 0} (ed : Edition K) (laws : Lawful ed) where
   -- No byte.
   pub still : {st : State K} {w : List ℕ} (out : List ℕ) (p : Pending) (read written : ℕ)
       → WellFormed ed w st → w ≡ over ed st w → written ≤ length out
-      → let fed : Fed = record { ok = true; pending = p; read = read; written = written } in Stepped ed st w fed [] out w out fed
+      → let fed : Fed = record { pending = p; read = read; written = written } in Stepped ed st w fed [] out w out fed
   unfolding held ended respond state_after
   still out p read written f own h =
       record {
@@ -119,7 +118,7 @@ module _ {K : Type 0} (ed : Edition K) (laws : Lawful ed) where
 
   module _ (p : Pending) (input out w : List ℕ) (st : State K) where
     pub begun : WellFormed ed w st → w ≡ over ed st w
-        → Reached ed p input out w st w out (record { ok = true; pending = p; read = 0; written = 0 })
+        → Reached ed p input out w st w out (record { pending = p; read = 0; written = 0 })
     begun f own = record { within = omega arith; so = still out p 0 0 f own (omega arith) }
 
     -- The state there.
@@ -140,7 +139,7 @@ module _ {K : Type 0} (ed : Edition K) (laws : Lawful ed) where
 
     -- The loop ends where no byte is taken any more.
     over_at : {w₁ out₁ : List ℕ} {fed : Fed} (n : ℕ) → n ≤ length input
-        → Stepped ed st w (record { ok = true; pending = p; read = 0; written = 0 }) (take n input) out w₁ out₁ fed
+        → Stepped ed st w (record { pending = p; read = 0; written = 0 }) (take n input) out w₁ out₁ fed
         → taking ed (length out - fed.written) (drop n input) ≡ 0
         → ◌≡◌ {A = After} (record { returned = fed; arena = w₁; out = out₁ }) (feeding ed p input out w st)
     unfolding fed_with

@@ -1,6 +1,5 @@
 -- One byte: what a step of the stream leaves.
 -- Assumes nothing.
-use mathlib.Core.Bool.{true}
 use mathlib.Core.List.{List, [], ◌∷◌, append-nil}
 use mathlib.Core.Path.{◌≡◌, ◌∙◌}
 use Prim.Native.Nat.{ℕ, ◌+◌, ◌-◌, ◌≤◌}
@@ -23,7 +22,7 @@ module _ {K : Type 0} (ed : Edition K) (laws : Lawful ed) where
   pub ended_here : {st : State K} {w w' out out' : List ℕ} (fed : Fed) → fed.written + line_size ed ≤ length out
       → Answered ed (so_far fed.pending) st w out fed.written w' out'
       → Stepped ed st w fed (newline ∷ []) out w' out'
-      (record { ok = true; pending = no_line; read = fed.read + 1; written = fed.written + line_size ed })
+      (record { pending = no_line; read = fed.read + 1; written = fed.written + line_size ed })
   unfolding held ended respond state_after
   ended_here {st} {out = out} fed room h =
       let a = (line_outcome ed (line_command ed (so_far fed.pending)) st).answer in
@@ -40,13 +39,13 @@ module _ {K : Type 0} (ed : Edition K) (laws : Lawful ed) where
   pub step_ended : {st : State K} {w w' out out' : List ℕ} (fed : Fed) (b : ℕ) {q : Pending} → b ≡ newline → q ≡ no_line
       → fed.written + line_size ed ≤ length out → Answered ed (so_far fed.pending) st w out fed.written w' out'
       → Stepped ed st w fed (b ∷ []) out w' out'
-      (record { ok = true; pending = q; read = fed.read + 1; written = fed.written + line_size ed })
+      (record { pending = q; read = fed.read + 1; written = fed.written + line_size ed })
   step_ended fed b e g room h = rw (e, g) (ended_here fed room h)
 
   -- Any other byte: the line is longer, and nothing else happens.
   pub step_longer : {st : State K} {w : List ℕ} (out : List ℕ) (fed : Fed) (b : ℕ) {q : Pending} → (b ≡ newline → ⊥)
       → q ≡ longer ed fed.pending b → fed.written + line_size ed ≤ length out → WellFormed ed w st → w ≡ over ed st w
-      → Stepped ed st w fed (b ∷ []) out w out (record { ok = true; pending = q; read = fed.read + 1; written = fed.written })
+      → Stepped ed st w fed (b ∷ []) out w out (record { pending = q; read = fed.read + 1; written = fed.written })
   unfolding held ended respond state_after
   step_longer out fed b h g room f own =
       record {

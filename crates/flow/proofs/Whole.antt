@@ -51,7 +51,7 @@ digits_plain (b ∷ l) {ds} e = by (digit b) refl (digits l) (λ es h. digits_pl
 
 -- What is there after so many bytes and answers, with no byte of a line.
 abbrev pub at_start : ℕ → ℕ → Fed
-at_start read written = record { ok = true; pending = no_line; read = read; written = written }
+at_start read written = record { pending = no_line; read = read; written = written }
 
 pub to_end : (at : ℕ) (xs : List ℕ) → between at (length xs) xs ≡ drop at xs
 to_end at xs = take_all (length xs - at) (drop at xs) (omega (arith, length-drop at xs))
@@ -122,24 +122,11 @@ module _ {K : Type 0} (ed : Edition K) where
           }
       by false g false h q = absurd (none-ne-some c q)
 
-  -- Of what was there before, only the line that is not ended, the bytes read and the bytes written matter.
-  pub begun_with : {st : State K} {w bytes out w' out' : List ℕ} (fed : Fed) {fed' : Fed} → fed.pending ≡ no_line
-      → Stepped ed st w (at_start fed.read fed.written) bytes out w' out' fed' → Stepped ed st w fed bytes out w' out' fed'
-  begun_with fed e s =
-      record {
-        returned = rw e s.returned;
-        words = rw e s.words;
-        formed = rw e s.formed;
-        wrote = rw e s.wrote;
-        fits = s.fits;
-        going = s.going;
-      }
-
   module _ (laws : Lawful ed) where
     plain_step : {st : State K} {w out : List ℕ} (read written : ℕ) {l : List ℕ} → WellFormed ed w st → w ≡ over ed st w
         → written + line_size ed ≤ length out → Plain l
         → Stepped ed st w (at_start read written) l out w out
-        (record { ok = true; pending = held ed no_line l; read = read + length l; written = written })
+        (record { pending = held ed no_line l; read = read + length l; written = written })
     unfolding respond state_after
     plain_step {out = out} read written f own room h =
         record {
@@ -179,7 +166,7 @@ module _ {K : Type 0} (ed : Edition K) where
           let kept : so_far (held ed no_line line) ≡ line = all_kept no_line refl (omega arith) plain in
           let same : state_after ed (ended ed no_line line) st ≡ st =
           ap (λ (ls : List (List ℕ)). state_after ed ls st) (none_ended no_line plain) in
-          let fed : Fed = record { ok = true; pending = held ed no_line line; read = read + length line; written = written } in
+          let fed : Fed = record { pending = held ed no_line line; read = read + length line; written = written } in
           let read_so : read + length line + 1 ≡ read + (command_bytes ed + 1) = omega arith in
           let last : Stepped ed (state_after ed (ended ed no_line line) st) w fed (newline ∷ []) out w' out'
           (at_start (read + length line + 1) (written + line_size ed)) =

@@ -1,6 +1,6 @@
 -- What the line program owes for a piece of its input: the bytes that it takes, the lines that end in them, their answers, and what it has
 -- to remember. All of it is said once, for any edition.
-use Rattle.std.specs.Prelude.{List, [], ◌∷◌, ◌++◌, true, false, ◌≡◌, ℕ, suc, ◌+◌, ◌-◌, ◌*◌, ◌≤◌, eqb, leb, ltb, length, take, drop, set, get_or, replicate}
+use Rattle.std.specs.Prelude.{List, [], ◌∷◌, ◌++◌, Result, Ok, Err, ◌≡◌, ℕ, suc, ◌+◌, ◌-◌, ◌*◌, ◌≤◌, eqb, leb, ltb, length, take, drop, set, get_or, replicate}
 use Rattle.std.proofs.Math.Option.{Option, none as nil}
 use Rattle.std.proofs.lemmas.List.Edits.{sets}
 use Rattle.rules.specs.Order.{choose}
@@ -10,6 +10,8 @@ use Rattle.rules.specs.Perform.{State}
 use Rattle.rules.specs.Arena.{WellFormed, over}
 use Rattle.rules.specs.Calls.{Checked}
 use Rattle.rules.specs.Lines.{newline, line_command, line_outcome, answer_line, respond}
+use Rattle.heads.specs.declared.refusal.Refusal.{Refusal}
+use Rattle.heads.specs.declared.refusal.Refusal.TheVariants as refusal
 use Rattle.flow.specs.declared.Pending.{Pending}
 use Rattle.flow.specs.declared.Fed.{Fed}
 
@@ -29,15 +31,29 @@ closing p = choose (eqb p.len 0) [] (newline ∷ [])
 abbrev pub between : ℕ → ℕ → List ℕ → List ℕ
 between n m input = take (m - n) (drop n input)
 
--- What is there after a call: its answer, the arena's words and the bytes of the output buffer.
+-- What a call on a well-formed arena leaves: what it did, the arena's words and the bytes of the output buffer.
 pub record After : Type 0 where
   pub returned : Fed
   pub arena : List ℕ
   pub out : List ℕ
 
--- Where the arena is not well formed nothing changes.
-abbrev pub unfed : Pending → List ℕ → List ℕ → After
-unfed p out w = record { returned = record { ok = false; pending = p; read = 0; written = 0 }; arena = w; out = out }
+-- What a call gives: what it did, or why nothing was taken.
+pub record Given : Type 0 where
+  pub returned : Result Fed Refusal
+  pub arena : List ℕ
+  pub out : List ℕ
+
+abbrev pub served : After → Given
+served a = record { returned = Ok a.returned; arena = a.arena; out = a.out }
+
+-- What a call did, by what it gave: a call that was refused has taken and written nothing, and the line that is not ended is as it was.
+abbrev pub fed_of : Pending → Result Fed Refusal → Fed
+fed_of p (Ok fed) = fed
+fed_of p (Err why) = record { pending = p; read = 0; written = 0 }
+
+-- Where the arena is not well formed nothing is taken, and nothing changes.
+abbrev pub unfed : List ℕ → List ℕ → Given
+unfed out w = record { returned = Err refusal.Damaged; arena = w; out = out }
 
 module _ {K : Type 0} (ed : Edition K) where
   -- The bytes of a command's line, and of an answer's line with its newline.
@@ -80,7 +96,7 @@ module _ {K : Type 0} (ed : Edition K) where
       let ls = ended p (take n input) in
       let answers = respond ed ls st in
       record {
-        returned = record { ok = true; pending = held p (take n input); read = n; written = length answers };
+        returned = record { pending = held p (take n input); read = n; written = length answers };
         arena = over ed (state_after ls st) w;
         out = answers ++ drop (length answers) out;
       }
@@ -89,8 +105,8 @@ module _ {K : Type 0} (ed : Edition K) where
   feeding p input out w st = fed_with (taking (length out) input) p input out w st
 
   -- A call that is fed the input, with an output buffer and the arena w, gives `given`.
-  abbrev pub Feeds : Pending → List ℕ → List ℕ → List ℕ → After → Type 0
-  Feeds p input out w given = Checked ed w (feeding p input out w) (unfed p out w) given
+  abbrev pub Feeds : Pending → List ℕ → List ℕ → List ℕ → Given → Type 0
+  Feeds p input out w given = Checked ed w (λ (st : State K). served (feeding p input out w st)) (unfed out w) given
 
   -- The line was answered: its command done on the arena w, and the answer's line written at a place of the output buffer.
   pub record Answered (line : List ℕ) (st : State K) (w out : List ℕ) (at : ℕ) (w' out' : List ℕ) : Type 0 where
@@ -108,7 +124,6 @@ module _ {K : Type 0} (ed : Edition K) where
   pub record Stepped (st : State K) (w : List ℕ) (fed : Fed) (bytes out w' out' : List ℕ) (fed' : Fed) : Type 0 where
     pub returned : fed'
         ≡ record {
-          ok = true;
           pending = held fed.pending bytes;
           read = fed.read + length bytes;
           written = fed.written + length (respond ed (ended fed.pending bytes) st);

@@ -1,37 +1,36 @@
-// A stream of lines, for keys of `width` words, one or two: what the line program writes for pieces of its input, and what it has to
-// remember from one piece to the next. `feed` and `finish` assume that the width is one of the two, and nothing else.
+// A stream of lines: what the line program writes for pieces of its input, and what it has to remember from one piece to the next. `feed`
+// and `finish` assume nothing.
 #![tactic(auto)]
 
 ghost use Rattle.std.specs.Prelude.{List, [], ◌∷◌, ◌≡◌, ℕ, ◌+◌, ◌<◌, ◌≤◌, length};
 ghost use Rattle.std.proofs.Math.Option.{some};
 ghost use Rattle.rules.specs.Command as rules;
-ghost use Rattle.rules.specs.Edition.{edition, Width, Spells};
+ghost use Rattle.rules.specs.Edition.{edition};
 ghost use Rattle.rules.specs.Perform.{State};
 ghost use Rattle.rules.specs.Arena.{WellFormed};
 ghost use Rattle.rules.specs.Lines.{line_command};
 ghost use Rattle.heads.specs.Did.{Formed};
-ghost use Rattle.digits.specs.Read.{DigitTable};
-ghost use Rattle.line.specs.Read.{meant, SpellsLine};
+ghost use Rattle.line.specs.Read.{meant};
 ghost use Rattle.flow.specs.Stream.{no_line, longer, so_far, line_size, feeding, Feeds, closing, front, between, Answered, Stepped};
 
-use commands::command;
-use digits::digit_table;
+use commands::{Code, Command, Refusal, command};
+use digits::Digits;
 use formed::check;
-use line::{Line, NEWLINE, answer_bytes, command_bytes, read_with, write_answer};
+use line::{NEWLINE, Request, answer_bytes, command_bytes, read_with, write_answer};
+use node::Key;
 
 // The bytes of a line that is not ended, of which the longest command has 32. A line of more bytes than a command has is bad whatever it
-// holds, so that it is too long, len one more than a command's, is all that is kept of it.
-#[derive(Clone, Copy)]
+// holds, so that it is too long, len one more than a command's, is all that is kept of it. (A caller keeps it, copies it and may give any:
+// `longer` and `so_far` speak of bytes and len.)
+#[derive(Clone, Copy, Debug, PartialEq, Eq)]
 pub struct Pending {
     pub bytes: [u8; 32],
     pub len: usize,
 }
 
-// What a call did: how many bytes of its input it took, how many it wrote, and the line that is not ended now. Where the arena is not
-// well formed, ok is false and nothing has changed.
-#[derive(Clone, Copy)]
+// What a call did: how many bytes of its input it took, how many it wrote, and the line that is not ended now.
+#[derive(Clone, Copy, Debug, PartialEq, Eq)]
 pub struct Fed {
-    pub ok: bool,
     pub pending: Pending,
     pub read: usize,
     pub written: usize,
@@ -48,11 +47,10 @@ pub fn no_line() -> Pending
 }
 
 // The line with one byte more.
-fn longer(width: usize, pending: Pending, b: u8) -> Pending
-    requires { Width width }
-    ensures { result ≡ longer (edition width) pending b }
+fn longer<K: Key>(pending: Pending, b: u8) -> Pending
+    ensures { result ≡ longer (edition K.WORDS) pending b }
 {
-    let most = command_bytes(width);
+    let most = command_bytes::<K>();
     let len = pending.len;
     let mut bytes = pending.bytes;
     if len < most {
@@ -69,121 +67,108 @@ fn longer(width: usize, pending: Pending, b: u8) -> Pending
 }
 
 // What the line says, now that it has ended.
-fn said(table: &[u8; 256], width: usize, pending: Pending) -> Line
-    requires { DigitTable table.now × Width width }
-    ensures { (meant result ≡ line_command (edition width) (so_far pending)) × SpellsLine width result }
+fn said<K: Key>(digits: &Digits, pending: Pending) -> Option<Request<K>>
+    ensures { meant K.number result ≡ line_command (edition K.WORDS) (so_far pending) }
 {
-    let most = command_bytes(width);
+    let most = command_bytes::<K>();
     if pending.len != most {
-        return Line::Bad;
+        return None;
     }
     let bytes = pending.bytes;
-    read_with(table, width, &bytes[..most])
+    read_with(digits, &bytes[..most])
 }
 
-// Does a command, and writes the answer's line.
-fn obey(a: &mut [u32], width: usize, number: u32, key: u64, value: u32, out: &mut [u8], at: usize)
-    requires formed { Formed width a.old × (at + line_size (edition width) ≤ length out.old) }
-    requires spells { Spells width key }
-    ensures { (line : List ℕ) (st : State ℕ) → line_command (edition width) line ≡ some (rules.command number key value) →
-        WellFormed (edition width) a.old st →
-        Answered (edition width) line st a.old out.old at a.new out.new }
+// Does a command, and writes the answer's line. (Here and below: arena, output and place are no struct, and the room for an answer is a
+// clause, for the reason that `Inside` gives.)
+fn obey<K: Key>(a: &mut [u32], asked: Request<K>, out: &mut [u8], at: usize)
+    requires { Formed K.WORDS a.old × (at + line_size (edition K.WORDS) ≤ length out.old) }
+    ensures { (line : List ℕ) (st : State ℕ) →
+        line_command (edition K.WORDS) line ≡ some (rules.command asked.number (K.number asked.key) asked.value) →
+        WellFormed (edition K.WORDS) a.old st →
+        Answered (edition K.WORDS) line st a.old out.old at a.new out.new }
 {
-    let r = command(a, width, number, key, value);
-    write_answer(width, out, at, r.code, r.key, r.value, r.count);
+    let r = command(a, Command::numbered(asked.number, asked.key, asked.value));
+    write_answer(out, at, u32::from(r.code), r.key, r.value, r.count);
 }
 
 // Does what the line asks for, and writes the answer's line.
-fn answer(
-    table: &[u8; 256],
-    a: &mut [u32],
-    width: usize,
-    pending: Pending,
-    out: &mut [u8],
-    at: usize,
-)
-    requires { DigitTable table.now × Formed width a.old × (at + line_size (edition width) ≤ length out.old) }
-    ensures { (st : State ℕ) → WellFormed (edition width) a.old st →
-        Answered (edition width) (so_far pending) st a.old out.old at a.new out.new }
+fn answer<K: Key>(digits: &Digits, a: &mut [u32], pending: Pending, out: &mut [u8], at: usize)
+    requires { Formed K.WORDS a.old × (at + line_size (edition K.WORDS) ≤ length out.old) }
+    ensures { (st : State ℕ) → WellFormed (edition K.WORDS) a.old st →
+        Answered (edition K.WORDS) (so_far pending) st a.old out.old at a.new out.new }
 {
-    let Line::Command(number, key, value) = said(table, width, pending) else {
-        write_answer(width, out, at, 15, 0, 0, 0);
-        return;
-    };
-    obey(a, width, number, key, value, out, at);
+    match said::<K>(digits, pending) {
+        Some(asked) => obey(a, asked, out, at),
+        None => write_answer(out, at, u32::from(Code::BadLine), K::zero(), 0, 0),
+    }
 }
 
 // One byte of the input: a newline ends the line.
-fn step(table: &[u8; 256], a: &mut [u32], width: usize, fed: Fed, b: u8, out: &mut [u8]) -> Fed
-    requires digit_table { DigitTable table.now × Formed width a.old }
-    requires room { (fed.written + line_size (edition width) ≤ length out.old) × (fed.read + 1 < 18446744073709551616) }
-    ensures { (st : State ℕ) → WellFormed (edition width) a.old st →
-        Stepped (edition width) st a.old fed (b ∷ []) out.old a.new out.new result }
+fn step<K: Key>(digits: &Digits, a: &mut [u32], fed: Fed, b: u8, out: &mut [u8]) -> Fed
+    requires formed { Formed K.WORDS a.old }
+    requires room { (fed.written + line_size (edition K.WORDS) ≤ length out.old) × (fed.read + 1 < 18446744073709551616) }
+    ensures { (st : State ℕ) → WellFormed (edition K.WORDS) a.old st →
+        Stepped (edition K.WORDS) st a.old fed (b ∷ []) out.old a.new out.new result }
 {
     let pending = fed.pending;
     let at = fed.written;
     if b == NEWLINE {
-        answer(table, a, width, pending, out, at);
+        answer::<K>(digits, a, pending, out, at);
         return Fed {
-            ok: true,
             pending: no_line(),
             read: fed.read + 1,
-            written: at + answer_bytes(width),
+            written: at + answer_bytes::<K>(),
         };
     }
     Fed {
-        ok: true,
-        pending: longer(width, pending, b),
+        pending: longer::<K>(pending, b),
         read: fed.read + 1,
         written: at,
     }
 }
 
 // The command of a line that stands whole at the front of the bytes, with its newline.
-fn front(table: &[u8; 256], width: usize, bytes: &[u8]) -> Line
-    requires { DigitTable table.now × Width width }
-    ensures { (meant result ≡ front (edition width) bytes.now) × SpellsLine width result }
+fn front<K: Key>(digits: &Digits, bytes: &[u8]) -> Option<Request<K>>
+    ensures { meant K.number result ≡ front (edition K.WORDS) bytes.now }
 {
-    let end = command_bytes(width);
+    let end = command_bytes::<K>();
     if bytes.len() <= end {
-        return Line::Bad;
+        return None;
     }
     if bytes[end] != NEWLINE {
-        return Line::Bad;
+        return None;
     }
-    read_with(table, width, &bytes[..end])
+    read_with(digits, &bytes[..end])
 }
 
 // The commands that stand whole in what is left of the input, as long as there is room for an answer. Whatever comes after them is left:
-// this only goes faster than byte by byte.
-fn whole_lines(
-    table: &[u8; 256],
+// this only goes faster than byte by byte. (Not a `for`: a turn takes a line and gives an answer, and the end of either may stop it.)
+fn whole_lines<K: Key>(
+    digits: &Digits,
     a: &mut [u32],
-    width: usize,
     fed: Fed,
     input: &[u8],
     out: &mut [u8],
 ) -> Fed
-    requires digit_table { DigitTable table.now × Formed width a.old × (fed.pending ≡ no_line) }
+    requires formed { Formed K.WORDS a.old × (fed.pending ≡ no_line) }
     requires room { (fed.read ≤ length input.now) × (fed.written ≤ length out.old) }
-    ensures { (st : State ℕ) → WellFormed (edition width) a.old st →
-        Stepped (edition width) st a.old fed (between fed.read result.read input.now)
+    ensures { (st : State ℕ) → WellFormed (edition K.WORDS) a.old st →
+        Stepped (edition K.WORDS) st a.old fed (between fed.read result.read input.now)
         out.old a.new out.new result }
 {
-    let line = command_bytes(width) + 1;
-    let room = answer_bytes(width);
+    let line = command_bytes::<K>() + 1;
+    let room = answer_bytes::<K>();
     let mut read = fed.read;
     let mut written = fed.written;
     while written + room <= out.len() {
-        let Line::Command(number, key, value) = front(table, width, &input[read..]) else {
+        let Some(asked) = front::<K>(digits, &input[read..]) else {
             break;
         };
-        obey(a, width, number, key, value, out, written);
+        obey(a, asked, out, written);
         read += line;
         written += room;
     }
     Fed {
-        ok: true,
         pending: no_line(),
         read,
         written,
@@ -191,78 +176,68 @@ fn whole_lines(
 }
 
 // One byte of the input, and after a newline the lines that stand whole.
-fn advance(
-    table: &[u8; 256],
-    a: &mut [u32],
-    width: usize,
-    fed: Fed,
-    input: &[u8],
-    out: &mut [u8],
-) -> Fed
-    requires digit_table { DigitTable table.now × Formed width a.old }
-    requires room { (fed.read < length input.now) × (fed.written + line_size (edition width) ≤ length out.old) }
+fn advance<K: Key>(digits: &Digits, a: &mut [u32], fed: Fed, input: &[u8], out: &mut [u8]) -> Fed
+    requires formed { Formed K.WORDS a.old }
+    requires room { (fed.read < length input.now) × (fed.written + line_size (edition K.WORDS) ≤ length out.old) }
     ensures onward { fed.read < result.read }
-    ensures stepped { (st : State ℕ) → WellFormed (edition width) a.old st →
-        Stepped (edition width) st a.old fed (between fed.read result.read input.now)
+    ensures stepped { (st : State ℕ) → WellFormed (edition K.WORDS) a.old st →
+        Stepped (edition K.WORDS) st a.old fed (between fed.read result.read input.now)
         out.old a.new out.new result }
 {
     let at = fed.read;
     let b = input[at];
-    let next = step(table, a, width, fed, b, out);
+    let next = step::<K>(digits, a, fed, b, out);
     if b == NEWLINE {
-        return whole_lines(table, a, width, next, input, out);
+        return whole_lines::<K>(digits, a, next, input, out);
     }
     next
 }
 
-// The bytes of the input, as long as there is room for an answer.
-fn serve(a: &mut [u32], width: usize, pending: Pending, input: &[u8], out: &mut [u8]) -> Fed
-    requires { Formed width a.old }
-    ensures { (st : State ℕ) → WellFormed (edition width) a.old st →
+// The bytes of the input, as long as there is room for an answer. (Not a `for`: a turn takes as many bytes as it can.)
+fn serve<K: Key>(a: &mut [u32], pending: Pending, input: &[u8], out: &mut [u8]) -> Fed
+    requires { Formed K.WORDS a.old }
+    ensures { (st : State ℕ) → WellFormed (edition K.WORDS) a.old st →
         record { returned = result; arena = a.new; out = out.new }
-        ≡ feeding (edition width) pending input.now out.old a.old st }
+        ≡ feeding (edition K.WORDS) pending input.now out.old a.old st }
 {
-    let table = digit_table();
-    let room = answer_bytes(width);
+    let digits = Digits::new();
+    let room = answer_bytes::<K>();
     let mut fed = Fed {
-        ok: true,
         pending,
         read: 0,
         written: 0,
     };
     while fed.read < input.len() && fed.written + room <= out.len() {
-        fed = advance(&table, a, width, fed, input, out);
+        fed = advance::<K>(&digits, a, fed, input, out);
     }
     fed
 }
 
 // Takes bytes of the input as long as out has room for one more answer, and answers each line that ends in them.
-pub fn feed(a: &mut [u32], width: usize, pending: Pending, input: &[u8], out: &mut [u8]) -> Fed
-    requires { Width width }
-    ensures { Feeds (edition width) pending input.now out.old a.old
+pub fn feed<K: Key>(
+    a: &mut [u32],
+    pending: Pending,
+    input: &[u8],
+    out: &mut [u8],
+) -> Result<Fed, Refusal>
+    ensures { Feeds (edition K.WORDS) pending input.now out.old a.old
         (record { returned = result; arena = a.new; out = out.new }) }
 {
-    if !check(a, width) {
-        return Fed {
-            ok: false,
-            pending,
-            read: 0,
-            written: 0,
-        };
+    if !check::<K>(a) {
+        return Err(Refusal::Damaged);
     }
-    serve(a, width, pending, input, out)
+    Ok(serve::<K>(a, pending, input, out))
 }
 
 // The input has ended: a line without its newline is answered as if it had come. After a last newline no line follows.
 #[tactic(auto, unfolding(crate::specs::Stream::closing))]
-pub fn finish(a: &mut [u32], width: usize, pending: Pending, out: &mut [u8]) -> Fed
-    requires { Width width }
-    ensures { Feeds (edition width) pending (closing pending) out.old a.old
+pub fn finish<K: Key>(a: &mut [u32], pending: Pending, out: &mut [u8]) -> Result<Fed, Refusal>
+    ensures { Feeds (edition K.WORDS) pending (closing pending) out.old a.old
         (record { returned = result; arena = a.new; out = out.new }) }
 {
     let newline = [NEWLINE];
     if pending.len == 0 {
-        return feed(a, width, pending, &newline[..0], out);
+        return feed::<K>(a, pending, &newline[..0], out);
     }
-    feed(a, width, pending, &newline, out)
+    feed::<K>(a, pending, &newline, out)
 }

@@ -5,8 +5,8 @@ use Rattle.line.specs.Read.{meant}
 use Rattle.flow.proofs.Ended.{own_words, answered_bad}
 use Rattle.flow.proofs.answer.Goals as goal
 
-pub returns-in_default : goal.returns-in_default
-returns-in_default c st f =
+pub returns-in-None : goal.returns-in-None
+returns-in-None g c st f =
     let w = c.args.a.now in
-    let own = own_words c.requires.1.2 w (small w c.type_inv.a) f in
-    answered_bad _ (sym c.said.ensures.0 ∙ ap meant c.in_default.is) f own c.write_answer.ensures
+    let own = own_words g.met.K.Key.width w (small w c.type_inv.a) f in
+    answered_bad _ (sym c.said.ensures ∙ ap (meant g.K.Key.number) c.in-None.is) f own (rw (c.from.ensures, c.zero.ensures) at c.write_answer.ensures)

@@ -4,4 +4,4 @@ use Rattle.flow.proofs.Pieces.{ended_open}
 use Rattle.flow.proofs.finish.Goals as goal
 
 pub returns : goal.returns
-returns c = rw (ended_open c.args.pending (λ e. omega arith)) c.feed-2.ensures
+returns g c = rw (ended_open c.args.pending (λ e. omega arith)) c.feed-2.ensures

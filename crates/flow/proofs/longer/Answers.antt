@@ -5,13 +5,13 @@ use Rattle.flow.proofs.longer.Goals as goal
 
 pub returns-then-len-most : goal.returns-then-len-most
 unfolding longer
-returns-then-len-most c =
-    rw (lt-ltb c.args.pending.len (8 * (2 + c.args.width)) (omega (arith, c.if-len-most.true, c.command_bytes-most.ensures)))
+returns-then-len-most g c =
+    rw (lt-ltb c.args.pending.len (8 * (2 + g.K.Key.WORDS)) (omega (arith, c.if-len-most.true, c.command_bytes-most.ensures)))
 
 pub returns : goal.returns
 unfolding longer
-returns c =
+returns g c =
     rw (
-      le-ltb c.args.pending.len (8 * (2 + c.args.width)) (omega (arith, c.if-len-most.false, c.command_bytes-most.ensures)),
+      le-ltb c.args.pending.len (8 * (2 + g.K.Key.WORDS)) (omega (arith, c.if-len-most.false, c.command_bytes-most.ensures)),
       c.command_bytes-most.ensures,
     )

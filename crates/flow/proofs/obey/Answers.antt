@@ -3,5 +3,5 @@ use Rattle.flow.proofs.Ended.{answered_by}
 use Rattle.flow.proofs.obey.Goals as goal
 
 pub returns : goal.returns
-returns c line st e f =
-    answered_by line c.args.number c.args.key c.args.value e (c.command-r.ensures st f) c.write_answer.ensures
+returns g c line st e f =
+    answered_by line e (rw c.numbered.ensures at (c.command-r.ensures st f)) c.from.ensures c.write_answer.ensures

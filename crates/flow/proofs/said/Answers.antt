@@ -6,15 +6,12 @@ use Rattle.flow.proofs.Ended.{whole, not_whole}
 use Rattle.flow.proofs.said.Goals as goal
 
 pub returns-then-pending-most : goal.returns-then-pending-most
-returns-then-pending-most c = (
-  sym (not_whole (edition _) c.requires.1.two c.args.pending (search rules)
-      (rw c.command_bytes-most.ensures at c.if-pending-most.true)),
-  tt,
-)
+returns-then-pending-most g c =
+    sym (not_whole (edition _) g.met.K.Key.width.two c.args.pending (search rules) (rw c.command_bytes-most.ensures at c.if-pending-most.true))
 
 pub returns : goal.returns
-returns c =
+returns g c =
     let e = c.command_bytes-most.ensures in
-    let ed = edition c.args.width in
-    let kept = whole ed c.requires.1.two c.args.pending (search rules) (omega (arith, c.if-pending-most.false, e)) in
-    ((rw e at c.read_with.ensures.command) ∙ ap (line_command ed) (sym kept), c.read_with.ensures.fits)
+    let ed = edition g.K.Key.WORDS in
+    let kept = whole ed g.met.K.Key.width.two c.args.pending (search rules) (omega (arith, c.if-pending-most.false, e)) in
+    (rw e at c.read_with.ensures.command) ∙ ap (line_command ed) (sym kept)

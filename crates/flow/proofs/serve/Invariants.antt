@@ -7,13 +7,13 @@ use Rattle.flow.proofs.Onward.{Reached}
 use Rattle.flow.proofs.serve.Given as goal
 
 abbrev pub invariant-loop-fed : goal.invariant-loop-fed
-invariant-loop-fed l =
+invariant-loop-fed g l =
     record {
       arena : length l.a ≡ length l.fn.a;
       room : length l.out ≡ length l.fn.out;
-      so : (st : State ℕ) → WellFormed (edition l.width) l.fn.a st
-          → Reached (edition l.width) l.fn.pending l.input l.fn.out l.fn.a st l.a l.out l.fed;
+      so : (st : State ℕ) → WellFormed (edition g.K.Key.WORDS) l.fn.a st
+          → Reached (edition g.K.Key.WORDS) l.fn.pending l.input l.fn.out l.fn.a st l.a l.out l.fed;
     }
 
 abbrev pub decreases-loop-fed : goal.decreases-loop-fed
-decreases-loop-fed l = length l.input - l.fed.read
+decreases-loop-fed g l = length l.input - l.fed.read

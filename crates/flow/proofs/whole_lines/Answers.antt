@@ -6,12 +6,12 @@ use Rattle.heads.proofs.Settle.{small}
 use Rattle.line.specs.Read.{meant}
 use Rattle.flow.specs.Stream.{command_bytes}
 use Rattle.flow.proofs.Ended.{own_words}
-use Rattle.flow.proofs.Whole.{none_yet, one_more, in_front, begun_with, to_end}
+use Rattle.flow.proofs.Whole.{none_yet, one_more, in_front, to_end}
 use Rattle.flow.proofs.whole_lines.Goals as goal
 
 pub loop-written-init : goal.loop-written-init
-loop-written-init c =
-    let v = c.requires.digit_table.1.2 in
+loop-written-init g c =
+    let v = g.met.K.Key.width in
     let w = c.args.a.now in
     record {
       arena = refl;
@@ -23,16 +23,16 @@ loop-written-init c =
     }
 
 pub loop-written-preserved : goal.loop-written-preserved
-loop-written-preserved c =
-    let v = c.requires.digit_table.1.2 in
-    let ed = edition c.args.width in
+loop-written-preserved g c =
+    let v = g.met.K.Key.width in
+    let ed = edition g.K.Key.WORDS in
     let l = c.loop-written in
     let i = l.invariant in
     let input = c.args.input.now in
     let rest = drop l.read input in
     let room = c.answer_bytes-room.ensures in
     let size = c.command_bytes-line.ensures in
-    let there = sym (rw (to_end l.read input) at c.front.ensures.0) ∙ ap meant c.in-Command.is in
+    let there = sym (rw (to_end l.read input) at c.front.ensures) ∙ ap (meant g.K.Key.number) c.in-Some.is in
     let long : l.read + (command_bytes ed + 1) ≤ length input = omega (arith, (in_front ed rest there).long, length-drop l.read input) in
     record {
       arena = c.obey.auto.a ∙ i.arena;
@@ -46,7 +46,3 @@ loop-written-preserved c =
           (omega (arith, c.loop-written-test.true, i.room, room))
           (c.obey.ensures (take (command_bytes ed) rest) _ (in_front ed rest there).asks (i.so st f).formed));
     }
-
-pub returns : goal.returns
-returns c st f =
-    rw c.no_line.ensures (begun_with (edition _) c.args.fed c.requires.digit_table.2 (c.loop-written.invariant.so st f))

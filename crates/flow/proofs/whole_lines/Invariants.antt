@@ -8,17 +8,17 @@ use Rattle.flow.proofs.Whole.{at_start}
 use Rattle.flow.proofs.whole_lines.Given as goal
 
 abbrev pub invariant-loop-written : goal.invariant-loop-written
-invariant-loop-written l =
+invariant-loop-written g l =
     record {
       arena : length l.a ≡ length l.fn.a;
       room : length l.out ≡ length l.fn.out;
       from : l.initial.read ≤ l.read;
       within : l.read ≤ length l.input;
       fits : l.written ≤ length l.fn.out;
-      so : (st : State ℕ) → WellFormed (edition l.width) l.fn.a st
-          → Stepped (edition l.width) st l.fn.a (at_start l.initial.read l.initial.written) (between l.initial.read l.read l.input) l.fn.out
+      so : (st : State ℕ) → WellFormed (edition g.K.Key.WORDS) l.fn.a st
+          → Stepped (edition g.K.Key.WORDS) st l.fn.a (at_start l.initial.read l.initial.written) (between l.initial.read l.read l.input) l.fn.out
           l.a l.out (at_start l.read l.written);
     }
 
 abbrev pub decreases-loop-written : goal.decreases-loop-written
-decreases-loop-written l = length l.out - l.written
+decreases-loop-written g l = length l.out - l.written
