@@ -16,7 +16,7 @@ const SHORTEST: u32 = 20_000;
 
 const LONGEST: u32 = 5_000_000;
 
-// Waits so many nanoseconds.
+// Waits so many nanoseconds. (Clock and pause are no struct: a handle, and a number that changes with each try.)
 fn nap(clock: &impl Clock, nanos: u32) {
     thread::sleep(clock, Duration::from_nanos(u64::from(nanos)));
 }
@@ -31,7 +31,7 @@ fn longer(pause: u32) -> u32 {
 }
 
 // Naps, and returns how long the next nap is to be.
-fn rest(clock: &impl Clock, pause: u32) -> u32 {
+fn napped(clock: &impl Clock, pause: u32) -> u32 {
     nap(clock, pause);
     longer(pause)
 }
@@ -41,7 +41,7 @@ fn rest(clock: &impl Clock, pause: u32) -> u32 {
 fn retry(clock: &impl Clock, error: Error, pause: u32) -> io::Result<u32> {
     match error.kind() {
         ErrorKind::Interrupted => Ok(pause),
-        ErrorKind::WouldBlock => Ok(rest(clock, pause)),
+        ErrorKind::WouldBlock => Ok(napped(clock, pause)),
         _ => Err(error),
     }
 }
@@ -52,7 +52,7 @@ fn after_write(clock: &impl Clock, put: usize, pause: u32) -> u32 {
     if put > 0 {
         SHORTEST
     } else {
-        rest(clock, pause)
+        napped(clock, pause)
     }
 }
 
@@ -82,16 +82,15 @@ pub fn read<C: Clock, R: Read>(clock: &C, from: &mut R, buf: &mut [u8]) -> io::R
 pub fn write_all<C: Clock, W: Write>(clock: &C, to: &mut W, buf: &[u8]) -> io::Result<()>
     ensures { OnOk result (Appends (W.contents to.old) (W.contents to.new) buf.now) }
 {
-    let mut done = 0;
+    let mut rest = buf;
     let mut pause = SHORTEST;
     for _ in 0..u64::MAX {
-        if done >= buf.len() {
+        if rest.is_empty() {
             return Ok(());
         }
-        let part = &buf[done..];
-        match to.write(part) {
+        match to.write(rest) {
             Ok(put) => {
-                done += put;
+                rest = &rest[put..];
                 pause = after_write(clock, put, pause);
             }
             Err(error) => pause = retry(clock, error, pause)?,

@@ -1,15 +1,23 @@
 // What makes the line program fail, and how it says so.
 ghost use Rattle.std.specs.Prelude.{◌≤◌, length};
 
+use calls::Refusal;
 use std::io::{Error, ErrorKind, Write};
 use std::str;
 
 // What ends the program before every answer is out.
-#[derive(Drop)]
+#[derive(Debug, Drop)]
 pub(crate) enum Failure {
     Input(Error),
     Output(Error),
     Damaged,
+}
+
+// An arena that cannot be made, or that is not well formed.
+impl From<Refusal> for Failure {
+    fn from(_: Refusal) -> Failure {
+        Failure::Damaged
+    }
 }
 
 // More bytes than std writes for an error.

@@ -1,14 +1,12 @@
-// The line program over its input and its output, for keys of `width` words, one or two: commands are read, their answers written, and
-// standard error says what failed, after the program's name. Assumes that the width is one of the two; the words of the arena may be
-// anything.
+// The line program over its input and its output: commands are read, their answers written, and standard error says what failed, after the
+// program's name. The words of the arena may be anything.
 #![tactic(auto)]
 
 ghost use Rattle.std.specs.Prelude.{◌≤◌, ◌<◌, length, IfOk};
-ghost use Rattle.rules.specs.Edition.{Width};
 
 mod failure;
 
-use calls::make;
+use calls::{Key, make};
 use failure::{Failure, failed};
 use flow::{Pending, feed, finish, no_line};
 use std::fs::{Metadata, OpenFile};
@@ -19,67 +17,6 @@ use std::{fs, io};
 
 // The name that the system gives to what standard output is.
 const OUTPUT: &str = "/proc/self/fd/1";
-
-// How many bytes of a piece were taken, and the line that is not ended.
-#[derive(Drop)]
-struct Took {
-    bytes: usize,
-    pending: Pending,
-}
-
-// Writes all of the answers.
-fn put<C: Clock, O: Write>(clock: &C, to: &mut O, answers: &[u8]) -> Result<(), Failure> {
-    pipes::write_all(clock, to, answers).map_err(Failure::Output)
-}
-
-// Answers the piece as far as the buffer for the answers goes, and writes them. Feed takes nothing where the arena is damaged, and then it
-// never will.
-fn take<C: Clock, O: Write>(
-    clock: &C,
-    to: &mut O,
-    a: &mut [u32],
-    width: usize,
-    pending: Pending,
-    piece: &[u8],
-    out: &mut [u8],
-) -> Result<Took, Failure>
-    requires { Width width }
-    ensures some { IfOk result (λ took. 0 < took.bytes) }
-    ensures within { IfOk result (λ took. took.bytes ≤ length piece.now) }
-{
-    let fed = feed(a, width, pending, piece, out);
-    let n = fed.written;
-    if fed.read == 0 {
-        return Err(Failure::Damaged);
-    }
-    put(clock, to, &out[..n])?;
-    Ok(Took {
-        bytes: fed.read,
-        pending: fed.pending,
-    })
-}
-
-// Answers all of what came, and returns the line that is not ended.
-fn serve<C: Clock, O: Write>(
-    clock: &C,
-    to: &mut O,
-    a: &mut [u32],
-    width: usize,
-    pending: Pending,
-    piece: &[u8],
-    out: &mut [u8],
-) -> Result<Pending, Failure>
-    requires { Width width }
-{
-    let mut line = pending;
-    let mut at = 0;
-    while at < piece.len() {
-        let took = take(clock, to, a, width, line, &piece[at..], out)?;
-        line = took.pending;
-        at += took.bytes;
-    }
-    Ok(line)
-}
 
 // Whether the output is a file, as far as the system tells.
 fn is_file(about: io::Result<Metadata>) -> bool {
@@ -109,86 +46,102 @@ fn settle<F: Files>(files: &F) -> Result<(), Failure> {
     }
 }
 
-// The input has ended: the line that is not ended is answered, and the answers are seen out.
-fn end<R: Clock + Files, O: Write>(
-    rt: &R,
-    to: &mut O,
-    a: &mut [u32],
-    width: usize,
-    pending: Pending,
-    out: &mut [u8],
-) -> Result<(), Failure>
-    requires { Width width }
-{
-    let fed = finish(a, width, pending, out);
-    let n = fed.written;
-    put(rt, to, &out[..n])?;
-    settle(rt)
+// The program while it runs: its clock and files, where the answers go, the arena, the line that is not ended, and room for answers.
+#[derive(Drop)]
+struct Session<'a, R, O> {
+    rt: &'a R,
+    to: &'a mut O,
+    arena: &'a mut [u32],
+    line: Pending,
+    out: [u8; 65536],
 }
 
-// One read, and all that it brought answered before the next, so that whoever waits for an answer has it. Returns the line that is not
-// ended, or None where the input has ended and every answer is out. A read that failed is no end: the line that is not ended stays
-// unanswered.
-fn turn<R: Clock + Files, I: Read, O: Write>(
-    rt: &R,
-    from: &mut I,
-    to: &mut O,
-    a: &mut [u32],
-    width: usize,
-    pending: Pending,
-    buf: &mut [u8],
-    out: &mut [u8],
-) -> Result<Option<Pending>, Failure>
-    requires { Width width }
-{
-    let n = pipes::read(rt, from, buf).map_err(Failure::Input)?;
-    if n == 0 {
-        end(rt, to, a, width, pending, out)?;
-        return Ok(None);
+impl<'a, R: Clock + Files, O: Write> Session<'a, R, O> {
+    // Writes so many bytes of answers.
+    fn put(&mut self, n: usize) -> Result<(), Failure>
+        requires { n ≤ 65536 }
+    {
+        pipes::write_all(self.rt, self.to, &self.out[..n]).map_err(Failure::Output)
     }
-    let line = serve(rt, to, a, width, pending, &buf[..n], out)?;
-    Ok(Some(line))
-}
 
-// A proved loop has to end, and nothing says that the input does. So the turns are counted, up to a number that no run uses up.
-fn run<R: Clock + Files, I: Read, O: Write>(
-    rt: &R,
-    from: &mut I,
-    to: &mut O,
-    a: &mut [u32],
-    width: usize,
-    buf: &mut [u8],
-    out: &mut [u8],
-) -> Result<(), Failure>
-    requires { Width width }
-{
-    let mut pending = no_line();
-    for _ in 0..u64::MAX {
-        match turn(rt, from, to, a, width, pending, buf, out)? {
-            Some(line) => pending = line,
-            None => return Ok(()),
+    // Answers the piece as far as the room for the answers goes, and writes them. Returns how many bytes of it were taken: some, since the
+    // room is enough for a line. (No contract says that, so a piece of which nothing is taken ends the program.)
+    fn take<K: Key>(&mut self, piece: &[u8]) -> Result<usize, Failure>
+        ensures some { IfOk result (λ n. 0 < n) }
+        ensures within { IfOk result (λ n. n ≤ length piece.now) }
+    {
+        let fed = feed::<K>(self.arena, self.line, piece, &mut self.out)?;
+        if fed.read == 0 {
+            return Err(Failure::Damaged);
         }
+        self.line = fed.pending;
+        self.put(fed.written)?;
+        Ok(fed.read)
     }
-    Err(Failure::Input(io::Error::from(ErrorKind::TimedOut)))
+
+    // Answers all of what came.
+    fn serve<K: Key>(&mut self, piece: &[u8]) -> Result<(), Failure> {
+        let mut rest = piece;
+        while !rest.is_empty() {
+            let taken = self.take::<K>(rest)?;
+            rest = &rest[taken..];
+        }
+        Ok(())
+    }
+
+    // The input has ended: the line that is not ended is answered, and the answers are seen out.
+    fn end<K: Key>(&mut self) -> Result<(), Failure> {
+        let fed = finish::<K>(self.arena, self.line, &mut self.out)?;
+        self.put(fed.written)?;
+        settle(self.rt)
+    }
+
+    // Reads until the input ends, and answers all that a read brought before the next, so that whoever waits for an answer has it. A read
+    // that failed is no end: the line that is not ended stays unanswered. A proved loop has to end, and nothing says that the input does.
+    // So the reads are counted, up to a number that no run uses up.
+    fn run<K: Key, I: Read>(&mut self, from: &mut I) -> Result<(), Failure> {
+        let mut buf = [0; 65536];
+        for _ in 0..u64::MAX {
+            let n = pipes::read(self.rt, from, &mut buf).map_err(Failure::Input)?;
+            if n == 0 {
+                return self.end::<K>();
+            }
+            self.serve::<K>(&buf[..n])?;
+        }
+        Err(Failure::Input(io::Error::from(ErrorKind::TimedOut)))
+    }
 }
 
-// The whole program: makes an arena of so many slots in the lent words, and serves it. The status that the process ends with: 0 where the
-// input has ended and every answer was taken; 1 where something failed, and standard error says what.
-pub fn program<R: Clock + Eprint + Files, I: Read, O: Write>(
+// Makes an arena of so many slots in the lent words, and serves it until the input ends.
+fn served<K: Key, R: Clock + Files, I: Read, O: Write>(
+    rt: &R,
+    from: &mut I,
+    to: &mut O,
+    arena: &mut [u32],
+    slots: u32,
+) -> Result<(), Failure> {
+    make::<K>(arena, slots)?;
+    let mut session = Session {
+        rt,
+        to,
+        arena,
+        line: no_line(),
+        out: [0; 65536],
+    };
+    session.run::<K, I>(from)
+}
+
+// The whole program, on an arena of so many slots in the lent words. The status that the process ends with: 0 where the input has ended and
+// every answer was taken; 1 where something failed, and standard error says what.
+pub fn program<K: Key, R: Clock + Eprint + Files, I: Read, O: Write>(
     rt: &R,
     from: &mut I,
     to: &mut O,
     name: &str,
     a: &mut [u32],
-    width: usize,
     slots: u32,
-) -> ExitCode
-    requires { Width width }
-{
-    make(a, width, slots);
-    let mut buf = [0u8; 65536];
-    let mut out = [0u8; 65536];
-    match run(rt, from, to, a, width, &mut buf, &mut out) {
+) -> ExitCode {
+    match served::<K, R, I, O>(rt, from, to, a, slots) {
         Ok(()) => ExitCode::SUCCESS,
         Err(failure) => {
             failed(rt, name, &failure);

@@ -1,4 +1,5 @@
-// The line program for keys of two words: the words of its arena, and its name. Assumes nothing.
+// The line program for keys of two words: its key, the words of its arena, and its name. (One call of the one program, so nothing is left
+// that could be shared.) Assumes nothing.
 #![tactic(auto)]
 
 use server::program;
@@ -7,13 +8,12 @@ use std::process::ExitCode;
 // The status that the process ends with is the program's.
 fn main(rt: HostRuntime) -> ExitCode {
     let mut arena = [0u32; 5124];
-    program(
+    program::<u64, _, _, _>(
         &rt,
         &mut rt.stdin(),
         &mut rt.stdout(),
         "tagline64",
         &mut arena,
-        2,
         1024,
     )
 }

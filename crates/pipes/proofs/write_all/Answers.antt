@@ -1,29 +1,24 @@
--- What a write took is the front of the part that was left; a write that failed took nothing.
-use Rattle.std.proofs.Common.{◌≡◌, ◌+◌, ◌-◌, ◌≤◌, ◌++◌, ℕ, List, arith, sym, ap, subst, ◌∙◌, length, take, drop}
-use lib.ListN.{length-drop, length-take}
-use lib.Seq.{take-take}
-use Rattle.std.proofs.Math.Seq.{take-add}
-use Rattle.std.specs.Io.KnownBytes.{Appends}
+-- What a write took is the front of the rest; a write that failed took nothing.
+use Rattle.std.proofs.Common.{◌≡◌, ◌++◌, ℕ, List, ap, ◌∙◌, length, take, drop, ◌-◌, arith}
+use lib.ListN.{length-drop}
+use mathlib.Core.List.{append_assoc}
+use Rattle.std.proofs.lemmas.List.{take_all, take-append-drop}
 use Rattle.std.proofs.KnownBytes.{Appends-trans, Appends-kept}
 use Rattle.pipes.proofs.write_all.Goals as goal
 use Rattle.pipes.proofs.write_all.Goals.{in-Ok, in-Err+in_ok-pause-in-Err}
 
-within : (buf : List ℕ) (done put : ℕ) → done ≤ length buf → put ≤ length (take (length buf - done) (drop done buf)) → done + put ≤ length buf
-within buf done put fits took = omega (arith, fits, simp (length-take, length-drop) at took)
-
-joined : (buf : List ℕ) (done put : ℕ) → done + put ≤ length buf
-    → take done buf ++ take put (take (length buf - done) (drop done buf)) ≡ take (done + put) buf
-joined buf done put fits =
-    ap (λ l. take done buf ++ l) (take-take put (length buf - done) (drop done buf) (omega arith)) ∙ sym (take-add done put buf)
+farther : (sent rest : List ℕ) {buf : List ℕ} (put : ℕ) → sent ++ rest ≡ buf
+    → (sent ++ take put rest) ++ take (length rest - put) (drop put rest) ≡ buf
+farther sent rest put whole =
+    ap (λ (l : List ℕ). (sent ++ take put rest) ++ l) (take_all _ _ (simp length-drop (omega arith)))
+    ∙ append_assoc sent (take put rest) (drop put rest)
+    ∙ ap (λ (l : List ℕ). sent ++ l) (take-append-drop put rest)
+    ∙ whole
 
 pub loop-preserved : goal.loop-preserved
 loop-preserved g c =
-    let (fits, appended) = c.loop.invariant in
-    let buf = c.args.buf.now in
-    let Kept : ℕ → Type 0 = λ d. (d ≤ length buf) × Appends (g.W.Write.contents c.args.to.now) (g.W.Write.contents c.write.new.self) (take d buf) in
+    let (sent, whole, told) = c.loop.invariant in
     elim c.match-write.branch [
-      | in-Ok w ↦
-          let more = within buf c.loop.done w.in-Ok.put fits w.in-Ok.ensures.bound in
-          subst Kept (sym w.done-is) (more, subst (Appends _ _) (joined buf c.loop.done w.in-Ok.put more) (Appends-trans _ _ _ _ _ appended w.in-Ok.ensures.bytes))
-      | in-Err+in_ok-pause-in-Err w ↦ subst Kept (sym w.done-is) (fits, Appends-kept _ _ _ _ appended w.in-Err.ensures.bytes)
+      | in-Ok w ↦ rw w.rest-is (sent ++ take w.in-Ok.put c.loop.rest.now, farther sent c.loop.rest.now w.in-Ok.put whole, Appends-trans _ _ _ _ _ told w.in-Ok.ensures.bytes)
+      | in-Err+in_ok-pause-in-Err w ↦ rw w.rest-is (sent, whole, Appends-kept _ _ _ _ told w.in-Err.ensures.bytes)
     ]
