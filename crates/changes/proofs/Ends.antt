@@ -29,12 +29,12 @@ use Rattle.lookups.proofs.Present.{worded}
 use Rattle.changes.proofs.Release.{release}
 
 -- The end of a tree: it is the root once it has risen, with no child on its side, and it is what is taken.
-record Ended (wd : ℕ) (d : Side) (t : Tree ℕ) (st : State ℕ) : Type 0 where
-  e : Entry ℕ
-  far : Tree ℕ
-  up : end_risen d t ≡ fork d e none far
-  nodes : (f : Entry ℕ → ℕ) → weigh f t ≡ f e + weigh f far
-  outcome : taken (edition wd) d t st ≡ gives (telling (edition wd) REMOVED e.key e.value 0) (freeing e.slot far st)
+pub record Ended (wd : ℕ) (d : Side) (t : Tree ℕ) (st : State ℕ) : Type 0 where
+  pub e : Entry ℕ
+  pub far : Tree ℕ
+  pub up : end_risen d t ≡ fork d e none far
+  pub nodes : (f : Entry ℕ → ℕ) → weigh f t ≡ f e + weigh f far
+  pub outcome : taken (edition wd) d t st ≡ gives (telling (edition wd) REMOVED e.key e.value 0) (freeing e.slot far st)
 
 record Risen (wd : ℕ) (d : Side) (near : Tree ℕ) (c : Entry ℕ) (y : Tree ℕ) (st : State ℕ) : Type 0 where
   e : Entry ℕ
@@ -53,7 +53,7 @@ rises wd right (node b l r) c y st =
     let q = rises wd right r b (node c y l) st in
     record { e = q.e; far = q.far; up = q.up; nodes = λ f. omega (arith, q.nodes f); outcome = q.outcome }
 
-ends : (wd : ℕ) (d : Side) (t : Tree ℕ) (st : State ℕ) → 0 < link_to t → Ended wd d t st
+pub ends : (wd : ℕ) (d : Side) (t : Tree ℕ) (st : State ℕ) → 0 < link_to t → Ended wd d t st
 ends wd d none st p = absurd (omega arith)
 ends wd left (node c l r) st p =
     let q = rises wd left l c r st in
@@ -74,19 +74,19 @@ taker wd left st = record { command = take_first; moving = tt; does = refl }
 taker wd right st = record { command = take_last; moving = tt; does = refl }
 
 module _ {wd : ℕ} (d : Side) {st : State ℕ} {h : Head} {w w₁ : List ℕ} {x : ℕ} (f : Headed wd w h st) (z : h.root ≡ 0 → ⊥) (b : Became wd w w₁ x st.tree (end_risen d st.tree)) where
-  end : Ended wd d st.tree st
+  pub end : Ended wd d st.tree st
   end = ends wd d st.tree st (omega (arith, z, f.root))
 
   up_stands : Stands (edition wd) w₁ x (fork d end.e none end.far)
   up_stands = subst (λ (t : Tree ℕ). Stands (edition wd) w₁ x t) end.up b.stands
 
-  end_at : x ≡ suc end.e.slot
+  pub end_at : x ≡ suc end.e.slot
   end_at = up_stands.at ∙ fork_link d end.e none end.far
 
   end_one : 1 ≤ times end.e.slot st.tree
   end_one = omega (arith, end.nodes (λ e. hit end.e.slot e.slot), hit_same end.e.slot)
 
-  end_inside : Width wd → Inside wd w₁ x
+  pub end_inside : Width wd → Inside wd w₁ x
   end_inside v =
       let q = up_stands.inside end.e.slot (omega (arith, weigh_fork (λ e. hit end.e.slot e.slot) d end.e none end.far, hit_same end.e.slot)) in
       rw end_at (omega arith)

@@ -26,20 +26,20 @@ use Rattle.heads.proofs.Heads.{tree_stands}
 use Rattle.changes.specs.Grown.{crowned, with_root, Rootless, Grew}
 
 -- The free chain's first slot.
-record Free (wd : ℕ) (st : State ℕ) (w : List ℕ) (h : Head) : Type 0 where
-  slot : ℕ
-  more : List ℕ
-  is : st.free ≡ slot ∷ more
-  first : h.free ≡ suc slot
-  inside : Inside wd w h.free
-  apart : times slot st.tree ≡ 0
-  once : listed slot more ≡ 0
-  next : slots wd w slot ≡ free_slot (edition wd) (first_link more)
-  rest : Chained (edition wd) (slots wd w) more
-  off : (s : ℕ) → 1 ≤ listed s more → times s st.tree ≡ 0
-  listing : (s : ℕ) → listed s st.free ≡ hit s slot + listed s more
+pub record Free (wd : ℕ) (st : State ℕ) (w : List ℕ) (h : Head) : Type 0 where
+  pub slot : ℕ
+  pub more : List ℕ
+  pub is : st.free ≡ slot ∷ more
+  pub first : h.free ≡ suc slot
+  pub inside : Inside wd w h.free
+  pub apart : times slot st.tree ≡ 0
+  pub once : listed slot more ≡ 0
+  pub next : slots wd w slot ≡ free_slot (edition wd) (first_link more)
+  pub rest : Chained (edition wd) (slots wd w) more
+  pub off : (s : ℕ) → 1 ≤ listed s more → times s st.tree ≡ 0
+  pub listing : (s : ℕ) → listed s st.free ≡ hit s slot + listed s more
 
-free_there : {wd : ℕ} {w : List ℕ} {h : Head} {st : State ℕ} → Width wd → Headed wd w h st → 0 < h.free → Free wd st w h
+pub free_there : {wd : ℕ} {w : List ℕ} {h : Head} {st : State ℕ} → Width wd → Headed wd w h st → 0 < h.free → Free wd st w h
 free_there {wd} {w} {h} {st} v f n = by st.free refl
   where
     by : (c : List ℕ) → st.free ≡ c → Free wd st w h
@@ -63,11 +63,11 @@ free_there {wd} {w} {h} {st} v f n = by st.free refl
         }
 
 -- The head where a node in the first free slot is the root.
-abbrev grown : Head → ℕ → Head
+abbrev pub grown : Head → ℕ → Head
 grown h next = record { root = h.free; size = h.size + 1; free = next }
 
 -- The first node.
-first_root : {wd : ℕ} {w w₁ : List ℕ} {h : Head} {st : State ℕ} (k v next : ℕ) (f : Headed wd w h st) (c : Free wd st w h) → next ≡ get_or w ((3 + wd) * h.free + 2) 0
+pub first_root : {wd : ℕ} {w w₁ : List ℕ} {h : Head} {st : State ℕ} (k v next : ℕ) (f : Headed wd w h st) (c : Free wd st w h) → next ≡ get_or w ((3 + wd) * h.free + 2) 0
     → Filled wd h.free (record { key = k; value = v; left = 0; right = 0 }) w w₁
     → Wrote wd st (taking (node (record { slot = c.slot; key = k; value = v }) none none) c.more st) h (grown h next) w w₁
 first_root {wd} {w} {w₁} {h} {st} k v next f c en t =
@@ -192,7 +192,7 @@ module _ {wd : ℕ} (wide : Width wd) (d : Side) {w w₁ w₂ : List ℕ} {h : H
       (λ q. omega (arith, n s, f.fit.once s, ap (λ (y : ℕ). hit y e.slot) q, hit_same e.slot)))
       h
 
-  crown : Wrote wd st (taking (fork d new near (fork d e none far)) c.more st) h (grown h next) w w₂
+  pub crown : Wrote wd st (taking (fork d new near (fork d e none far)) c.more st) h (grown h next) w w₂
   crown =
       let (m, hn, hf) = held_fork d (slots wd w) e near far held in
       record {
@@ -262,7 +262,7 @@ module _ {wd : ℕ} {w w₁ : List ℕ} {h : Head} {st : State ℕ} (wide : Widt
 
   -- Beside the old root, with the key j, on the side on which the new key lies.
   module _ {w₂ : List ℕ} {j : ℕ} (z : h.root ≡ 0 → ⊥) (ej : KeyRead (slots wd w₁) h.root j) where
-    grew_beside : (d : Side) → by_number k j ≡ toward d → w₂ ≡ crowned wd (off d) (off (other d)) w₁ h.root h.free → Grew wd k v st h w w₂ (grown h next)
+    pub grew_beside : (d : Side) → by_number k j ≡ toward d → w₂ ≡ crowned wd (off d) (off (other d)) w₁ h.root h.free → Grew wd k v st h w w₂ (grown h next)
     grew_beside d o ew = by d st.tree refl o ew
       where
         key_is : (e : Entry ℕ) (l r : Tree ℕ) → st.tree ≡ node e l r → j ≡ e.key

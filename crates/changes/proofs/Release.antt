@@ -73,10 +73,10 @@ bring_count wd k t = omega (arith, met_count wd k (splay by_number k t).tree (sp
 
 -- 6 remove: the root goes.
 module _ {wd k : ℕ} {st : State ℕ} {h : Head} {w w₁ : List ℕ} {x n : ℕ} (f : Headed wd w h st) (p : Here wd k st.tree w w₁ x n) where
-  abbrev whole : Tree ℕ
+  abbrev pub whole : Tree ℕ
   whole = node p.e p.l p.r
 
-  here_stands : Stands (edition wd) w₁ x whole
+  pub here_stands : Stands (edition wd) w₁ x whole
   here_stands = p.root.became.stands
 
   -- The comparisons of both splays fit a word.

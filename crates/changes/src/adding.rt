@@ -56,7 +56,7 @@ pub fn insert<K: Key>(a: &mut [u32], head: Head, most: u32, key: K, value: u32) 
     ensures { (st : State ℕ) → Headed K.WORDS a.old head st → st.slots ≡ most →
         Obeyed K.number K.WORDS (perform (edition K.WORDS) (insert (K.number key) value) st) st a.old a.new result }
 {
-    let m = bring(a, head.root, key);
+    let m = bring::<K>(a, head.root, key.number());
     let h = head.rooted(m.root);
     if m.here {
         let r = Answer::entry(a, m.root, Code::Replaced, m.count);

@@ -33,7 +33,8 @@ pub fn remove<K: Key>(a: &mut [u32], head: Head, key: K) -> Done<K>
     ensures { (st : State ℕ) → Headed K.WORDS a.old head st →
         Obeyed K.number K.WORDS (perform (edition K.WORDS) (remove (K.number key)) st) st a.old a.new result }
 {
-    let m = bring(a, head.root, key);
+    let wanted = key.number();
+    let m = bring::<K>(a, head.root, wanted);
     if !m.here {
         return Done {
             answer: Answer::bare(Code::Absent, m.count),
@@ -42,7 +43,7 @@ pub fn remove<K: Key>(a: &mut [u32], head: Head, key: K) -> Done<K>
     }
     let root = m.root;
     let old = Answer::entry(a, root, Code::Removed, m.count);
-    let t = without_root(a, root, key);
+    let t = without_root::<K>(a, root, wanted);
     let h = free_slot::<K>(a, head.rooted(t.root), root);
     let r = Answer {
         count: m.count + (t.count as u32),

@@ -62,12 +62,12 @@ module _ {wd : ℕ} {t : Tree ℕ} {w w₁ : List ℕ} {x : ℕ} {e : Entry ℕ}
   root_value = ap (λ (c : Slot ℕ). c.value) p.became.stands.holds.0
 
 -- The root after a splay.
-record Root (wd k : ℕ) (t : Tree ℕ) (w w₁ : List ℕ) (x : ℕ) : Type 0 where
-  e : Entry ℕ
-  l : Tree ℕ
-  r : Tree ℕ
-  is : (splay by_number k t).tree ≡ node e l r
-  root : AtRoot wd t w w₁ x e l r
+pub record Root (wd k : ℕ) (t : Tree ℕ) (w w₁ : List ℕ) (x : ℕ) : Type 0 where
+  pub e : Entry ℕ
+  pub l : Tree ℕ
+  pub r : Tree ℕ
+  pub is : (splay by_number k t).tree ≡ node e l r
+  pub root : AtRoot wd t w w₁ x e l r
 
 -- What a splay ensures of the tree at the link `start`.
 module _ (k : ℕ) {wd : ℕ} {w w₁ : List ℕ} {start x n : ℕ} (s : SplayedAt wd k w start w₁ x n) where
@@ -75,7 +75,7 @@ module _ (k : ℕ) {wd : ℕ} {w w₁ : List ℕ} {start x n : ℕ} (s : Splayed
   pub brought_few : (t : Tree ℕ) × Few wd w start t → n ≤ 8190
   brought_few (t, f) = omega (arith, (s t f.stands).1, f.few, splay_count by_number k t)
 
-  rooted : {t : Tree ℕ} → Stands (edition wd) w start t → (start ≡ 0 → ⊥) → Root wd k t w w₁ x
+  pub rooted : {t : Tree ℕ} → Stands (edition wd) w start t → (start ≡ 0 → ⊥) → Root wd k t w w₁ x
   rooted {t} h p = by (splay by_number k t).tree refl (splay_real by_number k t (real_link t (omega (arith, h.at, p))))
     where
       by : (u : Tree ℕ) → (splay by_number k t).tree ≡ u → Real u → Root wd k t w w₁ x
@@ -99,13 +99,13 @@ module _ (k : ℕ) {wd : ℕ} {w w₁ : List ℕ} {start x n : ℕ} (s : Splayed
   -- The root's key m is the key, or it is not.
   module _ {m a b : ℕ} (p : start ≡ 0 → ⊥) (em : KeyRead (slots wd w₁) x m) (ea : a ≡ m) (eb : b ≡ k) {t : Tree ℕ}
       (h : Stands (edition wd) w start t) where
-    at : Root wd k t w w₁ x
+    pub at : Root wd k t w w₁ x
     at = rooted h p
 
     root_is : a ≡ at.e.key
     root_is = ea ∙ em at.e.slot (root_at at.root) ∙ root_key at.root
 
-    brings : bring (edition wd) k t ≡ met (by_number k at.e.key) at.e at.l at.r (n + 1)
+    pub brings : bring (edition wd) k t ≡ met (by_number k at.e.key) at.e at.l at.r (n + 1)
     unfolding bring
     brings =
         ap (λ (u : Tree ℕ). root_met (edition wd) k u (splay by_number k t).count) at.is

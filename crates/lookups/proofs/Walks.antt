@@ -56,7 +56,7 @@ module _ {wd : ℕ} {w : List ℕ} {P : Tree ℕ → Known (Entry ℕ) → Type 
   walk_in p = root_in i.t i.width i.stands (omega (arith, p))
 
   -- A turn: the walk goes on at the child on the side s, and where b holds the node becomes the best so far.
-  walk_turn : {Q : Tree ℕ → Known (Entry ℕ) → Type 0} → (x ≡ 0 → ⊥) → (s : Side) (b : Bool) (y : ℕ) → y ≡ get_or w ((3 + wd) * x + off s) 0
+  pub walk_turn : {Q : Tree ℕ → Known (Entry ℕ) → Type 0} → (x ≡ 0 → ⊥) → (s : Side) (b : Bool) (y : ℕ) → y ≡ get_or w ((3 + wd) * x + off s) 0
       → ((e : Entry ℕ) (l r : Tree ℕ) (known : Known (Entry ℕ)) → x ≡ suc e.slot → (slots wd w e.slot).key ≡ e.key → P (node e l r) known
       → Q (of_side s l r) (choose b (some e) known))
       → Walk wd w Q y (choose b (Some x) best) × (size (read_off wd w y) < size (read_off wd w x))
@@ -79,7 +79,7 @@ module _ {wd : ℕ} {w : List ℕ} {P : Tree ℕ → Known (Entry ℕ) → Type 
           )
 
   -- No child is left.
-  walk_end : x ≡ 0 → P none i.known
+  pub walk_end : x ≡ 0 → P none i.known
   walk_end p = subst (λ (u : Tree ℕ). P u i.known) (no_link i.t (sym i.stands.at ∙ p)) i.goal
 
 -- What the walk of next and prev comes to, from the tree t₀ with nothing known, after `count` nodes.
@@ -109,7 +109,7 @@ module _ {wd : ℕ} {d : Side} {w : List ℕ} {x : ℕ} (v : Width wd) (h : (t :
 module _ {wd : ℕ} {d : Side} {w : List ℕ} {t₀ : Tree ℕ} {x : ℕ} {best : Option ℕ} where
   module _ {key count : ℕ} (i : Walk wd w (Seeking wd d key t₀ count) x best) where
     -- A turn, by the test b and the side s that it leads to.
-    seek_turn : (x ≡ 0 → ⊥) → (k : ℕ) → KeyRead (slots wd w) x k → (b : Bool) → is_toward d (by_number key k) ≡ b
+    pub seek_turn : (x ≡ 0 → ⊥) → (k : ℕ) → KeyRead (slots wd w) x k → (b : Bool) → is_toward d (by_number key k) ≡ b
         → (s : Side) → s ≡ choose b d (other d) → (y : ℕ) → y ≡ get_or w ((3 + wd) * x + off s) 0
         → Walk wd w (Seeking wd d key t₀ (count + 1)) y (choose b (Some x) best) × (size (read_off wd w y) < size (read_off wd w x))
     seek_turn p k ek b eb s es y ey =
@@ -121,7 +121,7 @@ module _ {wd : ℕ} {d : Side} {w : List ℕ} {t₀ : Tree ℕ} {x : ℕ} {best 
           few = omega (arith, g.few, child_less (choose b d (other d)) e l r);
         })
 
-    seek_end : x ≡ 0 → SoughtIn wd d key w t₀ best count
+    pub seek_end : x ≡ 0 → SoughtIn wd d key w t₀ best count
     unfolding seek
     seek_end p =
         let g = walk_end i p in
@@ -148,11 +148,11 @@ module _ {wd : ℕ} {d : Side} {w : List ℕ} {t₀ : Tree ℕ} {x : ℕ} {best 
       seek_far_less = (seek_turn i p n en false (says false e) s es y ey).1
 
   module _ (i : Walk wd w (Ending d t₀) x best) where
-    outermost_turn : (x ≡ 0 → ⊥) → (y : ℕ) → y ≡ get_or w ((3 + wd) * x + off d) 0
+    pub outermost_turn : (x ≡ 0 → ⊥) → (y : ℕ) → y ≡ get_or w ((3 + wd) * x + off d) 0
         → Walk wd w (Ending d t₀) y (Some x) × (size (read_off wd w y) < size (read_off wd w x))
     outermost_turn p y ey = walk_turn i p d true y ey (λ e l r known at ke g. record { same = g.same ∙ outermost_step d e l r known })
 
-    outermost_end : x ≡ 0 → LeadsOr wd w best (outermost d t₀ nil)
+    pub outermost_end : x ≡ 0 → LeadsOr wd w best (outermost d t₀ nil)
     unfolding outermost
     outermost_end p = subst (LeadsOr wd w best) (sym (walk_end i p).same) i.leads
 

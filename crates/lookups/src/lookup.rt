@@ -22,10 +22,10 @@ pub struct Met {
 }
 
 // Splay, then compare with the root.
-pub fn bring<K: Key>(a: &mut [u32], root: u32, key: K) -> Met
+pub fn bring<K: Key>(a: &mut [u32], root: u32, key: u64) -> Met
     requires { (t : Tree ℕ) × Few K.WORDS a.old root t }
     ensures { (t : Tree ℕ) → Stands (edition K.WORDS) a.old root t →
-        Meets K.WORDS (K.number key) t a.old a.new result }
+        Meets K.WORDS key t a.old a.new result }
 {
     if root == 0 {
         return Met {
@@ -34,10 +34,10 @@ pub fn bring<K: Key>(a: &mut [u32], root: u32, key: K) -> Met
             count: 0,
         };
     }
-    let s = splay(a, root, key);
+    let s = splay::<K>(a, root, key);
     let x = s.root;
     let n = (s.count + 1) as u32;
-    if key_of::<K>(a, x).number() == key.number() {
+    if key_of::<K>(a, x).number() == key {
         return Met {
             here: true,
             root: x,
@@ -57,7 +57,7 @@ pub fn get<K: Key>(a: &mut [u32], head: Head, key: K) -> Done<K>
     ensures { (st : State ℕ) → Headed K.WORDS a.old head st →
         Obeyed K.number K.WORDS (perform (edition K.WORDS) (get (K.number key)) st) st a.old a.new result }
 {
-    let m = bring(a, head.root, key);
+    let m = bring::<K>(a, head.root, key.number());
     let h = head.rooted(m.root);
     if !m.here {
         return Done {
@@ -77,7 +77,7 @@ pub fn write<K: Key>(a: &mut [u32], head: Head, key: K, value: u32) -> Done<K>
     ensures { (st : State ℕ) → Headed K.WORDS a.old head st →
         Obeyed K.number K.WORDS (perform (edition K.WORDS) (write (K.number key) value) st) st a.old a.new result }
 {
-    let m = bring(a, head.root, key);
+    let m = bring::<K>(a, head.root, key.number());
     let h = head.rooted(m.root);
     if !m.here {
         return Done {

@@ -65,7 +65,7 @@ pub fn neighbour<K: Key>(a: &mut [u32], head: Head, key: K, side: Side) -> Done<
             head,
         };
     }
-    let s = splay(a, root, key);
+    let s = splay::<K>(a, root, key.number());
     let f = seek(a, s.root, key, side);
     let n = (s.count + f.count) as u32;
     let h = head.rooted(s.root);

@@ -3,7 +3,7 @@
 ghost use Rattle.std.specs.Prelude.{◌≡◌, ℕ, ◌+◌, ◌≤◌, length};
 ghost use Rattle.std.proofs.Common.{rules};
 ghost use Rattle.std.proofs.lemmas.List.Edits.{sets};
-ghost use Rattle.rules.specs.Edition.{spelled, key_in, Width};
+ghost use Rattle.rules.specs.Edition.{spelled, key_in, Width, Spells};
 
 pub trait Key: Copy {
     ghost WORDS: { ℕ };
@@ -13,9 +13,10 @@ pub trait Key: Copy {
 
     ghost number: { Self → ℕ };
 
-    // "Keys are compared as numbers": the number that this key is.
+    // "Keys are compared as numbers": the number that this key is, which its words can spell.
     fn number(self) -> u64
-        ensures { result ≡ number self };
+        ensures same { result ≡ number self }
+        ensures fits { Spells WORDS result };
 
     // The key 0, of a free slot and of an answer without an entry.
     fn zero() -> Self

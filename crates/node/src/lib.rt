@@ -19,7 +19,7 @@ pub use side::Side;
 pub const M: u32 = 4294967295;
 
 // The word j of the slot that the link x leads to.
-fn word<K: Key>(a: &[u32], x: u32, j: usize) -> u32
+pub fn word<K: Key>(a: &[u32], x: u32, j: usize) -> u32
     requires { Inside K.WORDS a.now x × (j < 4) }
     ensures { result ≡ get_or a.now ((3 + K.WORDS) * x + j) 0 }
 {
@@ -28,7 +28,7 @@ fn word<K: Key>(a: &[u32], x: u32, j: usize) -> u32
 }
 
 // The word j of the slot that the link x leads to becomes v.
-fn put<K: Key>(a: &mut [u32], x: u32, j: usize, v: u32)
+pub fn put<K: Key>(a: &mut [u32], x: u32, j: usize, v: u32)
     requires { Inside K.WORDS a.old x × (j < 4) }
     ensures { a.new ≡ set a.old ((3 + K.WORDS) * x + j) v }
 {

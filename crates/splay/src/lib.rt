@@ -53,14 +53,13 @@ pub struct Splayed {
     pub count: usize,
 }
 
-// The tree at `start` splayed with the key.
-pub fn splay<K: Key>(a: &mut [u32], start: u32, key: K) -> Splayed
+// The tree at `start` splayed with the key, any number: it need be no key of the tree's.
+pub fn splay<K: Key>(a: &mut [u32], start: u32, key: u64) -> Splayed
     requires { Somewhere K.WORDS a.old start }
     ensures { (t : Tree ℕ) → Stands (edition K.WORDS) a.old start t →
-        Became K.WORDS a.old a.new result.root t (splay by_number (K.number key) t).tree
-        × (result.count ≡ (splay by_number (K.number key) t).count) }
+        Became K.WORDS a.old a.new result.root t (splay by_number key t).tree
+        × (result.count ≡ (splay by_number key t).count) }
 {
-    let key = key.number();
     let mut node = start;
     let mut left = Spine { top: 0, end: 0 };
     let mut right = Spine { top: 0, end: 0 };
@@ -117,18 +116,18 @@ pub fn splay<K: Key>(a: &mut [u32], start: u32, key: K) -> Splayed
 }
 
 // The tree at `root` without its root: the left subtree splayed with the key, and the right one hung on it.
-pub fn without_root<K: Key>(a: &mut [u32], root: u32, key: K) -> Splayed
+pub fn without_root<K: Key>(a: &mut [u32], root: u32, key: u64) -> Splayed
     requires { Somewhere K.WORDS a.old root }
     ensures { (t : Tree ℕ) → Stands (edition K.WORDS) a.old root t →
-        Became K.WORDS a.old a.new result.root t (root_gone by_number (K.number key) t).tree
-        × (result.count ≡ (root_gone by_number (K.number key) t).count) }
+        Became K.WORDS a.old a.new result.root t (root_gone by_number key t).tree
+        × (result.count ≡ (root_gone by_number key t).count) }
 {
     let l = link::<K>(a, root, Side::Left);
     let r = link::<K>(a, root, Side::Right);
     if l == 0 {
         return Splayed { root: r, count: 0 };
     }
-    let s = splay(a, l, key);
+    let s = splay::<K>(a, l, key);
     let top = s.root;
     put_link::<K>(a, top, Side::Right, r);
     s

@@ -14,8 +14,8 @@ loop-k-init g c = go _ _ _ _ g.met.K.Key.width c.requires
 less : (g : Over) (c : After-link-node g) →
     (let l = c.loop-k in
     let j = c.if-key-ck in
-    Linking g.K.Key.WORDS c.args.a.now c.args.start c.number-key.result left j.a j.node l.right.top l.right.end l.left.top l.left.end (l.count + 1 + 1)
-    (left_at g.K.Key.WORDS c.args.a.now c.args.start c.number-key.result l.a l.node))
+    Linking g.K.Key.WORDS c.args.a.now c.args.start c.args.key left j.a j.node l.right.top l.right.end l.left.top l.left.end (l.count + 1 + 1)
+    (left_at g.K.Key.WORDS c.args.a.now c.args.start c.args.key l.a l.node))
 less g c =
     let i = c.loop-k.invariant in
     elim c.if-key-ck.branch [
@@ -38,8 +38,8 @@ loop-k-preserved-then-key-k-2 g c = rw c.hang-right.ensures.last (go_on _ _ _ _ 
 more : (g : Over) (c : After-link-node-else-key-k-2 g) →
     (let l = c.loop-k in
     let j = c.if-ck-key in
-    Linking g.K.Key.WORDS c.args.a.now c.args.start c.number-key.result right j.a j.node l.left.top l.left.end l.right.top l.right.end (l.count + 1 + 1)
-    (left_at g.K.Key.WORDS c.args.a.now c.args.start c.number-key.result l.a l.node))
+    Linking g.K.Key.WORDS c.args.a.now c.args.start c.args.key right j.a j.node l.left.top l.left.end l.right.top l.right.end (l.count + 1 + 1)
+    (left_at g.K.Key.WORDS c.args.a.now c.args.start c.args.key l.a l.node))
 more g c =
     let i = c.loop-k.invariant in
     let child = c.link-child-else-key-k-2 in
@@ -64,7 +64,7 @@ loop-k-preserved g c = rw c.hang-left.ensures.last (go_on _ _ _ _ (more g c) c.h
 halted : (g : Over) (c : After-put_link-2 g) →
     (let l = c.loop-k in
     let j = c.if-key-k in
-    Halted g.K.Key.WORDS c.args.a.now c.args.start c.number-key.result j.a j.node l.right.top l.right.end l.left.top l.left.end j.count)
+    Halted g.K.Key.WORDS c.args.a.now c.args.start c.args.key j.a j.node l.right.top l.right.end l.left.top l.left.end j.count)
 halted g c =
     let i = c.loop-k.invariant in
     elim c.if-key-k.branch [
@@ -87,6 +87,6 @@ halted g c =
 
 pub returns : goal.returns
 returns g c t h =
-    rw (stands_read h, c.number-key.ensures) at
+    rw (stands_read h) at
     (become _ _ _ _ (halted g c.before.before.before) c.link-l.ensures c.link-r.ensures c.hang-left-2.ensures.alone c.hang-left-2.ensures.joined
     c.hang-right-2.ensures.alone c.hang-right-2.ensures.joined c.put_link.ensures c.put_link-2.ensures)
