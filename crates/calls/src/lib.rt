@@ -5,7 +5,7 @@
 mod making;
 mod steps;
 
-ghost use Rattle.rules.specs.Edition.{edition};
+ghost use Rattle.rules.specs.Edition.{edition, Spells};
 ghost use Rattle.rules.specs.Calls.{Does, Run};
 ghost use Rattle.heads.specs.Worded.{meant, returned};
 ghost use Rattle.keys.specs.Told.{reading};
@@ -19,13 +19,17 @@ pub use node::Key;
 
 // One command on an arena that is checked first.
 pub fn one<K: Key>(a: &mut [u32], by: Reading, command: Command<K>) -> Answer<K>
-    ensures { Does (edition K.WORDS) (reading by) (meant K.number command) a.old
+    ensures fits { Spells K.WORDS (K.number result.key) }
+    ensures one { Does (edition K.WORDS) (reading by) (meant K.number command) a.old
         (record { answer = told K.number K.WORDS result; arena = a.new }) }
 {
     if !check::<K>(a) {
         return Answer::bare(Code::Damaged, 0);
     }
-    steps::command_as(a, by, command)
+    let r: Answer<K> = steps::command_as(a, by, command);
+    // Of any key, this says that its words can spell it.
+    let _ = r.key.number();
+    r
 }
 
 // A run: the arena is checked once, then the commands are done in order.

@@ -4,7 +4,10 @@ use Rattle.formed.proofs.Tells.{found}
 use Rattle.calls.proofs.Called.{replied}
 use Rattle.calls.proofs.one.Goals as goal
 
-pub returns : goal.returns
-returns g c =
+pub returns-clause-fits : goal.returns-clause-fits
+returns-clause-fits g c = rw c.number.ensures.same at c.number.ensures.fits
+
+pub returns-clause-one : goal.returns-clause-one
+returns-clause-one g c =
     let (st, f) = found c.check.ensures c.if-not-check.false in
-    well_formed st f (replied _ _ st (c.command_as.ensures st f))
+    well_formed st f (replied _ _ st (c.command_as-r.ensures st f))

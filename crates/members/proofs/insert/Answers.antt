@@ -3,4 +3,4 @@ use Rattle.members.proofs.Asked.{asked}
 use Rattle.members.proofs.insert.Goals as goal
 
 pub returns : goal.returns
-returns g c = asked _ _ c.try_from.ensures c.one-r.ensures
+returns g c = asked _ _ c.try_from.ensures c.one-r.ensures.one
