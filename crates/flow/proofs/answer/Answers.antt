@@ -9,4 +9,4 @@ pub returns-in-None : goal.returns-in-None
 returns-in-None g c st f =
     let w = c.args.a.now in
     let own = own_words g.met.K.Key.width w (small w c.type_inv.a) f in
-    answered_bad _ (sym c.said.ensures ∙ ap (meant g.K.Key.number) c.in-None.is) f own (rw (c.from.ensures, c.zero.ensures) at c.write_answer.ensures)
+    answered_bad _ (sym c.said.ensures ∙ ap (meant _) c.in-None.is) f own (rw (c.from.ensures, c.zero.ensures) at c.write_answer.ensures)
