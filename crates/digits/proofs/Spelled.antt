@@ -26,7 +26,7 @@ unfolding spelled
 spelled_length zero w = refl
 spelled_length (suc n) w = rw (length-append, spelled_length n (w / 16), add-one)
 
-spelled_turn : (l : List ℕ) (at n w : ℕ)
+pub spelled_turn : (l : List ℕ) (at n w : ℕ)
     → sets (set l (at + n) (byte_of (w % 16))) at (spelled n (w / 16)) ≡ sets l at (spelled (suc n) w)
 unfolding spelled
 spelled_turn l at n w =

@@ -18,7 +18,7 @@ use Rattle.rules.specs.Lines.{digit, digits, and_then, number_from}
 use Rattle.digits.specs.Read.{coded, word_from}
 
 -- A digit, if there is one, is below 16.
-abbrev Small : Option ℕ → Type 0
+abbrev pub Small : Option ℕ → Type 0
 Small nil = Unit
 Small (some d) = d < 16
 
@@ -30,7 +30,7 @@ chosen_small : (p : Bool) (d : ℕ) (o : Option ℕ) → (p ≡ true → d < 16)
 chosen_small true d o h s = h refl
 chosen_small false d o h s = s
 
-digit_small : (b : ℕ) → Small (digit b)
+pub digit_small : (b : ℕ) → Small (digit b)
 unfolding digit
 digit_small b =
     chosen_small (leb 48 b && leb b 57) (b - 48) (choose (leb 97 b && leb b 102) (some (b - 87)) nil)
@@ -40,11 +40,11 @@ digit_small b =
     tt)
 
 -- The code 16 stands for no digit, and every other code for itself.
-none_coded : (o : Option ℕ) → Small o → coded o ≡ 16 → o ≡ nil
+pub none_coded : (o : Option ℕ) → Small o → coded o ≡ 16 → o ≡ nil
 none_coded nil s e = refl
 none_coded (some d) s e = absurd (omega arith)
 
-some_coded : (o : Option ℕ) → Small o → (coded o ≡ 16 → ⊥) → o ≡ some (coded o)
+pub some_coded : (o : Option ℕ) → Small o → (coded o ≡ 16 → ⊥) → o ≡ some (coded o)
 some_coded nil s h = absurd (h refl)
 some_coded (some d) s h = refl
 
@@ -60,7 +60,7 @@ abbrev pub word_after : List ℕ → ℕ → ℕ → ℕ → Perhaps ℕ
 word_after l at n i = word_from n (digits (take (8 - i) (drop (at + i) l)))
 
 -- A part of a line begins with its first byte.
-unread : (l : List ℕ) (at i : ℕ) → at + 8 ≤ length l → i < 8
+pub unread : (l : List ℕ) (at i : ℕ) → at + 8 ≤ length l → i < 8
     → take (8 - i) (drop (at + i) l) ≡ get_or l (at + i) 0 ∷ take (8 - (i + 1)) (drop (at + (i + 1)) l)
 unread l at i fits h =
     let e : 8 - i ≡ suc (8 - (i + 1)) = omega arith in

@@ -27,7 +27,7 @@ says_as by {r} {m} s =
 
 -- The reading has the command c as c'.
 module _ (wd : ℕ) (by : Reading) (c c' : Command ℕ) (e : c' ≡ read_as by c) (st : State ℕ) where
-  outcome : perform_as (edition wd) by c st ≡ (let o = perform (edition wd) c' st in gives (answer_as by o.answer) o.state)
+  pub outcome : perform_as (edition wd) by c st ≡ (let o = perform (edition wd) c' st in gives (answer_as by o.answer) o.state)
   unfolding perform_as
   outcome = ap (λ (q : Command ℕ). gives (answer_as by (perform (edition wd) q st).answer) (perform (edition wd) q st).state) (sym e)
 

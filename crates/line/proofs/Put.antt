@@ -77,6 +77,11 @@ line_put {wd} h l at c k v n =
     omega (arith, all_spelled_length (c ∷ (s ++ (v ∷ n ∷ []))), length-append s (v ∷ n ∷ [])) in
     rw (one, two, three, same, end) (sym (sets_append all (newline ∷ []) l at))
 
+pub line_length : {wd : ℕ} → Width wd → (c k v n : ℕ) → length (line_of_words wd c k v n) ≡ 8 * (3 + wd) + 1
+line_length {wd} h c k v n =
+    simp (length-append, all_spelled_length)
+    (omega (arith, length-append ((edition wd).spell k) (v ∷ n ∷ []), (edition_lawful h).spell_length k))
+
 -- A line that is written over all of the bytes is all that stands there.
 pub nothing_else : (l ws : List ℕ) → length l ≡ 8 * length ws + 1
     → sets l 0 (all_spelled ws ++ (newline ∷ [])) ≡ all_spelled ws ++ (newline ∷ [])
