@@ -13,7 +13,7 @@ pub(crate) enum Failure {
     Damaged,
 }
 
-// An arena that cannot be made, or that is not well formed.
+// An arena that is not well formed.
 impl From<Refusal> for Failure {
     fn from(_: Refusal) -> Failure {
         Failure::Damaged

@@ -89,10 +89,12 @@ impl<'a, R: Clock + Files, O: Write> Session<'a, R, O> {
         Ok(())
     }
 
-    // The input has ended: the line that is not ended is answered, and the answers are seen out.
+    // The input has ended: the line that is not ended is answered, and the answers are seen out. Where the arena is damaged there is no such
+    // line: the first byte that came would have ended the program.
     fn end<K: Key>(&mut self) -> Result<(), Failure> {
-        let fed = finish::<K>(self.arena, self.line, &mut self.out)?;
-        self.put(fed.written)?;
+        if let Ok(fed) = finish::<K>(self.arena, self.line, &mut self.out) {
+            self.put(fed.written)?;
+        }
         settle(self.rt)
     }
 
@@ -112,7 +114,8 @@ impl<'a, R: Clock + Files, O: Write> Session<'a, R, O> {
     }
 }
 
-// Makes an arena of so many slots in the lent words, and serves it until the input ends.
+// Makes an arena of so many slots in the lent words, and serves it until the input ends. Where none of that size can be made there, the words
+// stay as they were, and what they hold is served.
 fn served<K: Key, R: Clock + Files, I: Read, O: Write>(
     rt: &R,
     from: &mut I,
@@ -120,7 +123,7 @@ fn served<K: Key, R: Clock + Files, I: Read, O: Write>(
     arena: &mut [u32],
     slots: u32,
 ) -> Result<(), Failure> {
-    make::<K>(arena, slots)?;
+    let _ = make::<K>(arena, slots);
     let mut session = Session {
         rt,
         to,

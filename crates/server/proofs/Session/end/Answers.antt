@@ -5,4 +5,4 @@ use Rattle.flow.proofs.Bounds.{writes_within}
 use Rattle.server.proofs.Session.end.Goals as goal
 
 pub put-requires : goal.put-requires
-put-requires g c = omega (arith, writes_within (edition _) _ _ _ c.in_ok-fed.ensures, c.finish.auto.out)
+put-requires g c = omega (arith, writes_within (edition _) _ _ _ c.in-Ok.ensures, c.finish.auto.out)
