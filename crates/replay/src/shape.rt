@@ -1,34 +1,36 @@
 // The sum of a tree's shape, as oracle/README.md defines it: it tells trees apart by keys, values and children, whatever slots they lie in.
 ghost use Rattle.std.specs.Prelude.{◌≡◌, ◌+◌, ◌*◌, ◌%◌, ◌<◌, ◌≤◌};
-ghost use Rattle.replay.specs.declared.shape.TheConstants.{P};
 
-use node::{Key, M, Side, key_of, link, value};
+use node::Key;
 
 // The prime that all sums and products are taken modulo.
 const P: u64 = 2147483647;
+
+// The right word of a free slot.
+const M: u32 = 4294967295;
 
 // A number modulo P.
 #[derive(Clone, Copy)]
 struct Residue {
     n: u64,
-    ghost below: { n < P },
+    ghost below: { n < 2147483647 },
 }
 
 impl Residue {
     fn of(n: u64) -> Residue
-        ensures { result.n ≡ n % P }
+        ensures { result.n ≡ n % 2147483647 }
     {
         Residue { n: n % P }
     }
 
     fn plus(self, other: Residue) -> Residue
-        ensures { result.n ≡ (self.n + other.n) % P }
+        ensures { result.n ≡ (self.n + other.n) % 2147483647 }
     {
         Residue::of(self.n + other.n)
     }
 
     fn times(self, other: Residue) -> Residue
-        ensures { result.n ≡ self.n * other.n % P }
+        ensures { result.n ≡ self.n * other.n % 2147483647 }
     {
         Residue::of(self.n * other.n)
     }
@@ -40,6 +42,15 @@ impl Residue {
         let eight = four.times(four);
         eight.times(eight).times(self)
     }
+}
+
+// The word j of the slot that the link x leads to, where docs/RULES.md has it: the key's words come first, then the value, the left link and
+// the right one. (Not by `node`: that its words stand where they should is to show here.)
+fn word<K: Key>(a: &[u32; 20480], x: u32, j: usize) -> u32
+    requires { (1 ≤ x) × (x ≤ 4095) × (j < 3 + K.WORDS) }
+{
+    let slot = x as usize - 1;
+    a[4 + (3 + K::WORDS) * slot + j]
 }
 
 // What the halves of a word are multiplied by.
@@ -66,12 +77,15 @@ struct KeyFactors {
 }
 
 impl KeyFactors {
-    // What a key adds to a node's share. A key of one word is that of two whose high word is 0.
-    fn weigh<K: Key>(self, key: K) -> Residue {
-        let number = key.number();
-        let high = self.high.weigh((number / 4294967296) as u32);
-        let low = self.low.weigh((number % 4294967296) as u32);
-        high.plus(low)
+    // What a slot's key adds to a node's share. A key of one word is that of two whose high word is 0.
+    fn weigh<K: Key>(self, a: &[u32; 20480], x: u32) -> Residue
+        requires { (1 ≤ x) × (x ≤ 4095) }
+    {
+        let low = self.low.weigh(word::<K>(a, x, K::WORDS - 1));
+        if K::WORDS == 1 {
+            return low;
+        }
+        self.high.weigh(word::<K>(a, x, 0)).plus(low)
     }
 }
 
@@ -123,7 +137,7 @@ fn child<K: Key>(a: &[u32; 20480], x: u32, by: KeyFactors) -> Residue {
     if x == 0 || 4095 < x {
         return Residue::of(0);
     }
-    by.weigh(key_of::<K>(a, x))
+    by.weigh::<K>(a, x)
         .plus(Residue::of(u64::from(by.low.high)))
 }
 
@@ -131,14 +145,14 @@ fn child<K: Key>(a: &[u32; 20480], x: u32, by: KeyFactors) -> Residue {
 fn share<K: Key>(a: &[u32; 20480], x: u32) -> Residue
     requires { (1 ≤ x) × (x ≤ 4095) }
 {
-    let right = link::<K>(a, x, Side::Right);
+    let right = word::<K>(a, x, K::WORDS + 2);
     if right == M {
         return Residue::of(0);
     }
-    let left = link::<K>(a, x, Side::Left);
+    let left = word::<K>(a, x, K::WORDS + 1);
     Residue::of(1013904223)
-        .plus(KEY.weigh(key_of::<K>(a, x)))
-        .plus(VALUE.weigh(value::<K>(a, x)))
+        .plus(KEY.weigh::<K>(a, x))
+        .plus(VALUE.weigh(word::<K>(a, x, K::WORDS)))
         .plus(child::<K>(a, left, LEFT))
         .plus(child::<K>(a, right, RIGHT))
         .power17()
@@ -146,7 +160,7 @@ fn share<K: Key>(a: &[u32; 20480], x: u32) -> Residue
 
 // The sum of the shares of all slots, which for a well-formed arena is that of its tree's nodes.
 pub fn shape_sum<K: Key>(a: &[u32; 20480]) -> u32
-    ensures { result < P }
+    ensures { result < 2147483647 }
 {
     let slots = a[0];
     if 4095 < slots {

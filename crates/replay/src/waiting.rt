@@ -1,4 +1,7 @@
 // The lines of the answers, gathered, so that one write takes many.
+ghost use Rattle.std.specs.Prelude.{◌≡◌, ◌+◌, ◌*◌, ◌<◌, ◌≤◌};
+ghost use Rattle.arrayvec.specs.ArrayVec.{array_vec_len};
+
 use arrayvec::ArrayVec;
 use map::{Answer, Key};
 use std::io::{self, Stdout, Write};
@@ -13,21 +16,48 @@ pub struct Waiting {
     bytes: ArrayVec<u8, 65536>,
 }
 
-// Writes the line of an answer, with dashes where there is no shape.
-fn spell<K: Key>(to: &mut impl Write, answer: Answer<K>, shape: Option<u32>) -> io::Result<()> {
-    let digits = 8 * K::WORDS;
-    write!(
-        to,
-        "{:08x}{:0digits$x}{:08x}{:08x} ",
-        u32::from(answer.code),
-        answer.key.number(),
-        answer.value,
-        answer.count
-    )?;
-    match shape {
-        Some(sum) => writeln!(to, "{sum:08x}"),
-        None => writeln!(to, "--------"),
+// The byte of a digit.
+fn byte_of(digit: u64) -> u8
+    requires { digit < 16 }
+{
+    if digit < 10 {
+        b'0' + digit as u8
+    } else {
+        b'a' - 10 + digit as u8
     }
+}
+
+// Puts so many digits of a number, the low one first, at the right end. (By hand: std says of a number that it writes neither its bytes nor
+// how many they are.)
+fn spell(line: &mut [u8; 50], at: usize, digits: usize, number: u64)
+    requires { at + digits ≤ 50 }
+{
+    let mut rest = number;
+    for i in 0..digits {
+        let place = digits - 1 - i;
+        line[at + place] = byte_of(rest % 16);
+        rest = rest / 16;
+    }
+}
+
+// Puts the line of an answer, whole, behind the bytes that wait, where there is room for the longest; with dashes where there is no shape.
+fn put_line<K: Key>(to: &mut ArrayVec<u8, 65536>, answer: Answer<K>, shape: Option<u32>)
+    requires { array_vec_len to.old + 50 ≤ 65536 }
+    ensures { array_vec_len to.new ≡ array_vec_len to.old + (34 + 8 * K.WORDS) }
+{
+    let digits = 8 * K::WORDS;
+    let mut line = [b'-'; 50];
+    spell(&mut line, 0, 8, u64::from(u32::from(answer.code)));
+    spell(&mut line, 8, digits, answer.key.number());
+    let rest = 8 + digits;
+    spell(&mut line, rest, 8, u64::from(answer.value));
+    spell(&mut line, rest + 8, 8, u64::from(answer.count));
+    line[rest + 16] = b' ';
+    if let Some(sum) = shape {
+        spell(&mut line, rest + 17, 8, u64::from(sum));
+    }
+    line[rest + 25] = b'\n';
+    let _ = to.try_extend_from_slice(&line[..rest + 26]);
 }
 
 impl Waiting {
@@ -39,7 +69,9 @@ impl Waiting {
     }
 
     // Writes the bytes that wait. After a write that failed none waits.
-    pub fn flush(&mut self) -> io::Result<()> {
+    pub fn flush(&mut self) -> io::Result<()>
+        ensures { array_vec_len self.new.bytes ≡ 0 }
+    {
         let written = self.to.write_all(&self.bytes);
         self.bytes.clear();
         written
@@ -50,6 +82,7 @@ impl Waiting {
         if self.bytes.remaining_capacity() < WIDTH {
             self.flush()?;
         }
-        spell(&mut self.bytes, answer, shape)
+        put_line(&mut self.bytes, answer, shape);
+        Ok(())
     }
 }
