@@ -28,7 +28,7 @@ pub fn one<K: Key>(a: &mut [u32], by: Reading, command: Command<K>) -> Answer<K>
     }
     let r: Answer<K> = steps::command_as(a, by, command);
     // Of any key, this says that its words can spell it.
-    let _ = r.key.number();
+    let _ = r.key.spelled_number();
     r
 }
 

@@ -13,10 +13,9 @@ pub trait Key: Copy {
 
     ghost number: { Self → ℕ };
 
-    // "Keys are compared as numbers": the number that this key is, which its words can spell.
+    // "Keys are compared as numbers": the number that this key is.
     fn number(self) -> u64
-        ensures same { result ≡ number self }
-        ensures fits { Spells WORDS result };
+        ensures { result ≡ number self };
 
     // The key 0, of a free slot and of an answer without an entry.
     fn zero() -> Self
@@ -33,6 +32,19 @@ pub trait Key: Copy {
         ensures { a.new ≡ sets a.old i (spelled WORDS (number self)) };
 
     ghost width: { Width WORDS };
+
+    // The number again, and that the key's words can spell it: `put_at` stores them.
+    final fn spelled_number(self) -> u64
+        ensures same { result ≡ number self }
+        ensures fits { Spells WORDS result }
+    {
+        let mut words = [0; 2];
+        self.put_at(&mut words, 0);
+        if Self::WORDS == 1 {
+            return u64::from(words[0]);
+        }
+        self.number()
+    }
 }
 
 impl Key for u32 {

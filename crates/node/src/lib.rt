@@ -6,6 +6,8 @@
 
 mod key;
 mod side;
+#[cfg(test)]
+mod tests;
 
 ghost use Rattle.std.specs.Prelude.{◌≡◌, ℕ, suc, ◌+◌, ◌*◌, ◌<◌, get_or, set};
 ghost use Rattle.rules.specs.Edition.{edition};

@@ -5,7 +5,7 @@ use Rattle.calls.proofs.Called.{replied}
 use Rattle.calls.proofs.one.Goals as goal
 
 pub returns-clause-fits : goal.returns-clause-fits
-returns-clause-fits g c = rw c.number.ensures.same at c.number.ensures.fits
+returns-clause-fits g c = rw c.spelled_number.ensures.same at c.spelled_number.ensures.fits
 
 pub returns-clause-one : goal.returns-clause-one
 returns-clause-one g c =

@@ -15,7 +15,7 @@ returns-then-not-m g c st f =
     let k = g.K.Key.number c.args.key in
     rw c.rooted.ensures
     (absent c.requires.2 f (removed (edition g.K.Key.WORDS) k) (remove k) tt refl
-    (rw c.number-wanted.ensures.same at (c.bring-m.ensures st.tree (tree_stands f))) (not-true _ c.if-not-m.true) c.bare.ensures)
+    (rw c.number-wanted.ensures at (c.bring-m.ensures st.tree (tree_stands f))) (not-true _ c.if-not-m.true) c.bare.ensures)
 
 pub entry-old-requires : goal.entry-old-requires
 entry-old-requires g c = here_inside c.requires c.bring-m.ensures c.if-not-m.false
@@ -31,6 +31,6 @@ overflow_add-r g c = omega (arith, counts_few c.bring-m.ensures c.if-not-m.false
 
 pub returns : goal.returns
 returns g c st f =
-    rw c.number-wanted.ensures.same at
+    rw c.number-wanted.ensures at
     (removed_here c.bring-m.ensures c.if-not-m.false c.without_root-t.ensures c.requires.2 f
     c.rooted-2.ensures c.free_slot-h.ensures.filled c.free_slot-h.ensures.value c.entry-old.ensures)

@@ -17,8 +17,8 @@ key_of-requires g c = brought_in _ c.splay-s.ensures g.met.K.Key.width c.require
 
 pub returns-then-number-key : goal.returns-then-number-key
 returns-then-number-key g c t h =
-    brought_here _ c.splay-s.ensures c.if-root-eq0.false c.key_of.ensures c.number.ensures.same (omega arith) h c.if-number-key.true
+    brought_here _ c.splay-s.ensures c.if-root-eq0.false c.key_of.ensures c.number.ensures (omega arith) h c.if-number-key.true
 
 pub returns : goal.returns
 returns g c t h =
-    brought_beside _ c.splay-s.ensures c.if-root-eq0.false c.key_of.ensures c.number.ensures.same (omega arith) h c.if-number-key.false
+    brought_beside _ c.splay-s.ensures c.if-root-eq0.false c.key_of.ensures c.number.ensures (omega arith) h c.if-number-key.false

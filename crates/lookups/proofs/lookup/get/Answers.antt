@@ -12,7 +12,7 @@ pub returns-then-not-m : goal.returns-then-not-m
 unfolding perform
 returns-then-not-m g c st f =
     rw c.rooted-h.ensures
-    (absent g.met.K.Key.width f (found (edition g.K.Key.WORDS)) (get _) tt refl (rw c.number.ensures.same at (c.bring-m.ensures st.tree (tree_stands f))) (not-true _ c.if-not-m.true)
+    (absent g.met.K.Key.width f (found (edition g.K.Key.WORDS)) (get _) tt refl (rw c.number.ensures at (c.bring-m.ensures st.tree (tree_stands f))) (not-true _ c.if-not-m.true)
     c.bare.ensures)
 
 pub entry-requires : goal.entry-requires
@@ -20,5 +20,5 @@ entry-requires g c = here_inside c.requires c.bring-m.ensures c.if-not-m.false
 
 pub returns : goal.returns
 returns g c st f =
-    let p = is_here (rw c.number.ensures.same at (c.bring-m.ensures st.tree (tree_stands f))) (not-false _ c.if-not-m.false) in
+    let p = is_here (rw c.number.ensures at (c.bring-m.ensures st.tree (tree_stands f))) (not-false _ c.if-not-m.false) in
     rw c.rooted-h.ensures (found_here g.met.K.Key.width f p (c.entry.ensures p.e.slot (root_at p.root)))

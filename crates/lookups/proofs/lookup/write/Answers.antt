@@ -12,7 +12,7 @@ pub returns-then-not-m : goal.returns-then-not-m
 unfolding perform
 returns-then-not-m g c st f =
     rw c.rooted-h.ensures
-    (absent g.met.K.Key.width f (replaced (edition g.K.Key.WORDS) c.args.value) (write _ c.args.value) tt refl (rw c.number.ensures.same at (c.bring-m.ensures st.tree (tree_stands f)))
+    (absent g.met.K.Key.width f (replaced (edition g.K.Key.WORDS) c.args.value) (write _ c.args.value) tt refl (rw c.number.ensures at (c.bring-m.ensures st.tree (tree_stands f)))
     (not-true _ c.if-not-m.true) c.bare.ensures)
 
 pub entry-r-requires : goal.entry-r-requires
@@ -23,5 +23,5 @@ put_value-requires g c = here_inside c.requires c.bring-m.ensures c.if-not-m.fal
 
 pub returns : goal.returns
 returns g c st f =
-    let p = is_here (rw c.number.ensures.same at (c.bring-m.ensures st.tree (tree_stands f))) (not-false _ c.if-not-m.false) in
+    let p = is_here (rw c.number.ensures at (c.bring-m.ensures st.tree (tree_stands f))) (not-false _ c.if-not-m.false) in
     rw c.rooted-h.ensures (written_here g.met.K.Key.width f p (c.entry-r.ensures p.e.slot (root_at p.root)) c.args.value _ c.put_value.ensures)
