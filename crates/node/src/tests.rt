@@ -48,7 +48,11 @@ fn both<K: Key>(key: K) -> (u64, u64) {
 #[test]
 fn numbers_of_keys(rt: HostRuntime) {
     for (ward, bed, want) in [(0, 0, 0), (3, 7, 196615), (65535, 65535, 4294967295)] {
-        assert_eq!(rt; both(Bed { ward, bed }), (want, want), "ward {ward}, bed {bed}");
+        assert_eq!(rt;
+            both(Bed { ward, bed }),
+            (want, want),
+            "ward {ward}, bed {bed}"
+        );
     }
     for (key, want) in [(0, 0), (70000, 70000), (4294967295, 4294967295)] {
         assert_eq!(rt; both::<u32>(key), (want, want), "{key}");
