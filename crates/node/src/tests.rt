@@ -1,10 +1,10 @@
 // What the trait asks of a key of a caller's own, and what a caller gets of any key.
-ghost use Rattle.std.specs.Prelude.{◌+◌, ◌*◌};
+ghost use Rattle.std.specs.Prelude.{◌≡◌, ◌+◌, ◌*◌};
 ghost use Rattle.std.proofs.Common.{rules};
 
 use super::*;
 
-// A bed of a ward, as a key of one word. This is all that an impl has to write.
+// A bed of a ward, as a key of one word. This is all that an impl has to write, also where `number` has a clause of its own.
 #[derive(Clone, Copy)]
 struct Bed {
     ward: u16,
@@ -20,7 +20,9 @@ impl Key for Bed {
 
     ghost width = { Prim.search rules };
 
-    fn number(self) -> u64 {
+    fn number(self) -> u64
+        ensures { result ≡ 65536 * self.ward + self.bed }
+    {
         65536 * u64::from(self.ward) + u64::from(self.bed)
     }
 
